@@ -1,2 +1,5 @@
 pub mod Refusals
 pub mod Ranges
+pub mod Choices
+pub mod Tasks
+pub mod Making
