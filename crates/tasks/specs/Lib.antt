@@ -3,3 +3,4 @@ pub mod Ranges
 pub mod Choices
 pub mod Tasks
 pub mod Making
+pub mod Under

@@ -77,6 +77,20 @@ impl Task {
         self.deadline
     }
 
+    // Its blocks in their order.
+    pub fn blocks(&self) -> &[Block]
+        ensures { λ r. ⌜ now r ≡ vec-items (now (self .entry) .blocks .records) ⌝ }
+    {
+        self.blocks.records.as_slice()
+    }
+
+    // Its points in their order: the one at index i lies between the blocks at i and i + 1.
+    pub fn points(&self) -> &[Point]
+        ensures { λ r. ⌜ now r ≡ vec-items (now (self .entry) .points) ⌝ }
+    {
+        self.points.as_slice()
+    }
+
     // How many blocks it has: one more than points.
     pub fn block_count(&self) -> usize
         ensures { λ r. ⌜ r ≡ pointCount (now (self .entry)) + 1 ⌝ }
