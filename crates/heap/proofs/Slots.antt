@@ -12,12 +12,18 @@ use Rattle.std.proofs.shelf.Edits.{exchanged-is}
 use Rattle.std.proofs.shelf.Lists.{take-more, take-more-set, drop-more}
 use Rattle.std.proofs.shelf.Parts.{drop-append-drop}
 use Rattle.std.proofs.shelf.Sorted.{shuffled-sym, shuffled-trans, shuffled-cons, shuffled-swap, shuffled-to-front, length-shuffled}
+use Rattle.std.specs.declared.option.Option.the-variants.{Some}
 use Rattle.heap.specs.Heaps.{HeapedWithin, Heaped}
+use Rattle.heap.specs.Held.{first}
 
 -- a heap stays one where its items stay
 pub heaped-kept : {X : Type 0} (before : X → X → Bool) (xs ys : List X) (low end : ℕ) → end ≤ length xs → ((i : ℕ) (d : X) → low ≤ i → i < end → getD ys i d ≡ getD xs i d) → Heaped before xs → HeapedWithin before ys low end
 unfolding HeapedWithin
 heaped-kept before xs ys low end within same h = λ p k d l a b f. (λ z. before (same k d (omega arith) f z) (same p d l (omega arith) z)) ∙ h p k d (omega arith) a b (omega arith)
+
+-- x stands in the first of the n slots in use
+pub top-is : {X : Type 0} (xs : List X) (n : ℕ) (x : X) → 0 < n → n ≤ length xs → x ≡ getD xs 0 x → Some x ≡ first (take n xs)
+top-is xs n x some within e = let long = length-take-le n xs within in ap Some (e ∙ sym (getD-take n xs 0 x some)) ∙ sym (ap first (drop-more (take n xs) 0 x (omega arith)))
 
 -- the first k slots are sifted
 module _ {X : Type 0} (ys zs : List X) (k n : ℕ) (e : k ≡ n) (within : n ≤ length ys) (s : Shuffled (take k ys) zs) where

@@ -3,15 +3,16 @@ ghost use denote.Ref.{name};
 ghost use lib.Dec.{ltb};
 ghost use lib.ListN.{length, drop};
 ghost use mathlib.Core.Bool.{cond};
-ghost use mathlib.Core.List.{[], _∷_};
+ghost use mathlib.Core.List.{[], _∷_, _++_};
 ghost use mathlib.Core.Path.{_≡_};
-ghost use Prim.Native.Nat.{_+_, _<_};
+ghost use Prim.Native.Nat.{_+_, _-_, _<_};
 ghost use Rattle.std.specs.Options.{Cases as BySome};
 ghost use Rattle.std.specs.Results.{isOk, Cases as ByOk};
 ghost use Rattle.std.specs.Slices.{Shuffled};
+ghost use Rattle.std.specs.Vec.{listOf};
 ghost use Rattle.std.specs.shelf.Lists.{Has};
 ghost use Rattle.heap.specs.Heaps.{Least};
-ghost use Rattle.heap.specs.Held.{size, room, held, rest, Good};
+ghost use Rattle.heap.specs.Held.{size, room, held, top, rest, Good};
 
 mod order;
 mod sift;
@@ -91,7 +92,8 @@ impl<'a, T: TotalOrder> Heap<'a, T> {
     // A least item.
     pub fn peek(&self) -> Option<T>
         requires { ⌜ Good before (now self) ⌝ }
-        ensures { λ r. ⌜ BySome r (held (now (self .entry)) ≡ []) (λ x. Has (held (now (self .entry))) x × Least before x (held (now (self .entry)))) ⌝ }
+        ensures value { λ r. ⌜ r ≡ top (now (self .entry)) ⌝ }
+        ensures cases { λ r. ⌜ BySome r (held (now (self .entry)) ≡ []) (λ x. Has (held (now (self .entry))) x × Least before x (held (now (self .entry)))) ⌝ }
     {
         if self.len == 0 {
             return None;
@@ -104,10 +106,12 @@ impl<'a, T: TotalOrder> Heap<'a, T> {
     pub fn pop(&mut self) -> Option<T>
         requires { ⌜ Good before (now self) ⌝ }
         ensures good { λ _. ⌜ Good before (now (self .exit)) ⌝ }
-        ensures size { λ r. ⌜ BySome r (size (now (self .entry)) ≡ 0) (λ _. size (now (self .entry)) ≡ size (now (self .exit)) + 1) ⌝ }
+        ensures value { λ r. ⌜ r ≡ top (now (self .entry)) ⌝ }
+        ensures cases { λ r. ⌜ BySome r (size (now (self .entry)) ≡ 0) (λ _. 0 < size (now (self .entry))) ⌝ }
+        ensures size { λ _. ⌜ size (now (self .exit)) ≡ size (now (self .entry)) - 1 ⌝ }
         ensures room { λ _. ⌜ room (now (self .exit)) ≡ room (now (self .entry)) ⌝ }
         ensures held { λ r. ⌜ BySome r (now (self .exit) ≡ now (self .entry)) (λ x. Least before x (held (now (self .entry))) × Shuffled (held (now (self .entry))) (x ∷ held (now (self .exit)))) ⌝ }
-        ensures rest { λ r. ⌜ BySome r (rest (now (self .exit)) ≡ rest (now (self .entry))) (λ x. rest (now (self .exit)) ≡ x ∷ rest (now (self .entry))) ⌝ }
+        ensures rest { λ r. ⌜ rest (now (self .exit)) ≡ listOf r ++ rest (now (self .entry)) ⌝ }
         ensures named { λ _. ⌜ name (now (self .exit) .slots) ≡ name (now (self .entry) .slots) ⌝ }
     {
         if self.len == 0 {
@@ -125,7 +129,8 @@ impl<'a, T: TotalOrder> Heap<'a, T> {
     pub fn replace_top(&mut self, x: T) -> Option<T>
         requires { ⌜ Good before (now self) ⌝ }
         ensures good { λ _. ⌜ Good before (now (self .exit)) ⌝ }
-        ensures test { λ r. ⌜ BySome r (size (now (self .entry)) ≡ 0) (λ _. 0 < size (now (self .entry))) ⌝ }
+        ensures value { λ r. ⌜ r ≡ top (now (self .entry)) ⌝ }
+        ensures cases { λ r. ⌜ BySome r (size (now (self .entry)) ≡ 0) (λ _. 0 < size (now (self .entry))) ⌝ }
         ensures size { λ _. ⌜ size (now (self .exit)) ≡ size (now (self .entry)) ⌝ }
         ensures room { λ _. ⌜ room (now (self .exit)) ≡ room (now (self .entry)) ⌝ }
         ensures held { λ r. ⌜ BySome r (now (self .exit) ≡ now (self .entry)) (λ y. Least before y (held (now (self .entry))) × Shuffled (x ∷ held (now (self .entry))) (y ∷ held (now (self .exit)))) ⌝ }

@@ -33,7 +33,9 @@ returns g c =
     let kept = slots.sifted-held ys zs (m - 0) m (omega arith) within (t .shuffled) _ in
     record {
       good = record { within = search needs; heaped = subst (λ (l : List _). Heaped (g .T·TotalOrder .before) l) kept (t .heaped) };
-      size = one;
+      value = slots.top-is xs n x (omega arith) (c .pre .within) first;
+      cases = omega arith;
+      size = refl;
       room = search needs;
       held = (
         steps.first-least (g .T·TotalOrder .before) (o .asym) (o .chain) (take n xs) x (first ∙ sym (getD-take n xs 0 x (omega arith))) (c .pre .heaped),

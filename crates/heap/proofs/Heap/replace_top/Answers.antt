@@ -30,7 +30,8 @@ returns g c =
     let kept = slots.sifted-held ys zs (n - 0) n (omega arith) within (t .shuffled) _ in
     record {
       good = record { within = search needs; heaped = subst (λ (l : List _). Heaped (g .T·TotalOrder .before) l) kept (t .heaped) };
-      test = some;
+      value = slots.top-is xs n y some (c .pre .within) first;
+      cases = some;
       size = refl;
       room = search needs;
       held = (
