@@ -12,12 +12,11 @@ use crate::model::Task;
 use crate::refusals::Refusal;
 use std::alloc::Global;
 
-// Whether the word chooses the point at an index.
-pub(crate) fn is_chosen(word: u64, index: usize) -> bool
-    requires { ⌜ index < 64 ⌝ }
+// Whether a word chooses the point at an index.
+pub fn is_chosen(word: u64, index: usize) -> bool
     ensures { λ r. ⌜ r ≡ told word index ⌝ }
 {
-    (word >> index) % 2 == 1
+    index < 64 && (word >> index) % 2 == 1
 }
 
 // A word chooses points of a task by bit k - 1 for point k. One with a bit past the last point is refused.
