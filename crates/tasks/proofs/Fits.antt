@@ -6,7 +6,10 @@ use Prim.Native.Nat.{ℕ, zero, suc, _≤_, _<_}
 use native.Mathlib.Omega.{arith}
 use lib.ListN.{length, getD, set}
 use Rattle.std.proofs.shelf.Ways.{tells}
+use Rattle.std.specs.Of.Vec.{vec-items}
 use Rattle.tasks.specs.declared.blocks.Block.{Block}
+use Rattle.tasks.specs.declared.model.Task.{Task}
+use Rattle.tasks.specs.Tasks.{pointCount, costAt}
 use Rattle.tasks.specs.Ranges.{costFits, allCostsFit}
 
 pub both : (a b : Bool) → (a && b) ≡ true → (a ≡ true) × (b ≡ true)
@@ -24,3 +27,6 @@ pub fits-at : (bs : List Block) (i : ℕ) (d : Block) → allCostsFit bs ≡ tru
 fits-at [] i d h l = absurd (omega arith)
 fits-at (x ∷ bs) zero d h l = let f = both (costFits (x .cost)) (allCostsFit bs) h .0 in (grind (arith, tells), grind (arith, tells))
 fits-at (x ∷ bs) (suc i) d h l = fits-at bs i d (both (costFits (x .cost)) (allCostsFit bs) h .1) (omega arith)
+
+pub cost-fits : (t : Task) (i : ℕ) → i ≤ pointCount t → (1 ≤ costAt t i) × (costAt t i ≤ 1000000)
+cost-fits t i h = fits-at (vec-items (t .blocks .records)) i (record { cost = 0 }) (t .costs) (omega (arith, t .blocks .records .ok .0, t .count))

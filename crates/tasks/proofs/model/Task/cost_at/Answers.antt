@@ -4,7 +4,7 @@ use native.Mathlib.Omega.{arith}
 use lib.ListN.{length}
 use Rattle.std.proofs.shelf.Lists.{getD-read}
 use Rattle.std.specs.Of.Vec.{vec-items}
-use Rattle.tasks.proofs.Fits.{fits-at}
+use Rattle.tasks.proofs.Fits.{cost-fits}
 use Rattle.tasks.proofs.model.Task.cost_at.Needs as need
 
 pub returns : need.returns
@@ -14,4 +14,4 @@ returns c =
     let i = c .args .index in
     let within : i < length bs = omega (arith, t .blocks .records .ok .0, t .count, c .pre) in
     let value = ap (λ b. b .cost) (getD-read bs i (c .index .result .now) within (c .index .ensures) (record { cost = 0 })) in
-    record { value = value; bound = omega (arith, value, fits-at bs i (record { cost = 0 }) (t .costs) within .1) }
+    record { value = value; bound = omega (arith, value, cost-fits t i (c .pre) .1) }

@@ -1,0 +1,4 @@
+// The best points of one task within a limit on the length of its stretches.
+pub mod answer;
+pub mod candidate;
+mod lengths;
