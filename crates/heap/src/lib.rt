@@ -2,12 +2,12 @@
 ghost use denote.Ref.{name};
 ghost use lib.Dec.{ltb};
 ghost use lib.ListN.{length, drop};
-ghost use mathlib.Core.Bool.{cond};
+ghost use mathlib.Core.Bool.{false, cond};
 ghost use mathlib.Core.List.{[], _∷_, _++_};
 ghost use mathlib.Core.Path.{_≡_};
 ghost use Prim.Native.Nat.{_+_, _-_, _<_};
 ghost use Rattle.std.specs.Options.{Cases as BySome};
-ghost use Rattle.std.specs.Results.{isOk, Cases as ByOk};
+ghost use Rattle.std.specs.Results.{isOk};
 ghost use Rattle.std.specs.Slices.{Shuffled};
 ghost use Rattle.std.specs.Vec.{listOf};
 ghost use Rattle.std.specs.shelf.Lists.{Has};
@@ -75,8 +75,9 @@ impl<'a, T: TotalOrder> Heap<'a, T> {
         ensures test { λ r. ⌜ isOk r ≡ ltb (size (now (self .entry))) (room (now (self .entry))) ⌝ }
         ensures size { λ r. ⌜ size (now (self .exit)) ≡ cond (isOk r) (size (now (self .entry)) + 1) (size (now (self .entry))) ⌝ }
         ensures room { λ _. ⌜ room (now (self .exit)) ≡ room (now (self .entry)) ⌝ }
-        ensures held { λ r. ⌜ ByOk r (λ _. Shuffled (x ∷ held (now (self .entry))) (held (now (self .exit)))) (λ _. now (self .exit) ≡ now (self .entry)) ⌝ }
+        ensures held { λ r. ⌜ Shuffled (cond (isOk r) (x ∷ held (now (self .entry))) (held (now (self .entry)))) (held (now (self .exit))) ⌝ }
         ensures rest { λ r. ⌜ rest (now (self .exit)) ≡ cond (isOk r) (drop 1 (rest (now (self .entry)))) (rest (now (self .entry))) ⌝ }
+        ensures same { λ r. ⌜ (isOk r ≡ false → now (self .exit) ≡ now (self .entry)) ⌝ }
         ensures named { λ _. ⌜ name (now (self .exit) .slots) ≡ name (now (self .entry) .slots) ⌝ }
     {
         let n = self.len;
