@@ -8,8 +8,8 @@ use Rattle.heap.proofs.Steps as steps
 use Rattle.heap.proofs.Slots as slots
 use Rattle.heap.proofs.Heap.peek.Needs as need
 
-pub returns : need.returns
-returns g c =
+pub returns-in-rest : need.returns-in-rest
+returns-in-rest g c =
     let h = c .args .self .now in
     let x = c .index-slots-0 .result in
     let o = g .T·TotalOrder·met in

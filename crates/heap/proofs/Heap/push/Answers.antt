@@ -35,5 +35,6 @@ returns g c =
       room = search needs;
       held = subst (λ (l : List _). Shuffled (x ∷ take n xs) l) kept (slots.push-held xs n x some zs (slots.sifted-shuffled (set xs n x) zs (n + 1 - 0) (n + 1) (omega arith) within (t .shuffled)));
       rest = slots.sifted-rest (set xs n x) zs (n + 1 - 0) (n + 1) (omega arith) within (t .shuffled) ∙ slots.push-rest xs n x some;
+      same = λ e. absurd (grind arith);
       named = refl;
     }
