@@ -2,3 +2,4 @@
 pub mod answer;
 pub mod candidate;
 mod lengths;
+mod starts;
