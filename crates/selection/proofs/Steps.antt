@@ -7,6 +7,8 @@ use Prim.Native.Nat.{ℕ, zero, suc, _+_, _-_, _≤_, _<_}
 use native.Mathlib.Numerals.{add-one}
 use native.Mathlib.Omega.{arith}
 use lib.Dec.{leb, ltb}
+use lib.ListN.{length, getD, set}
+use lib.Seq.{getD-set-same, getD-set-other}
 use Rattle.std.specs.shelf.Lists.{Has, All}
 use Rattle.std.specs.Options.{Cases as BySome}
 use Rattle.std.specs.Slices.{Shuffled}
@@ -26,7 +28,7 @@ use Rattle.measures.proofs.Reach.{reached-none, reached-weak, reached-measured}
 use Rattle.selection.specs.declared.candidate.Candidate.{Candidate}
 use Rattle.selection.specs.Candidates.{sooner}
 use Rattle.selection.specs.Limits.{within}
-use Rattle.selection.specs.Linked.{valueOf, withPoint, reaches, selected, offered, proposed, Holds, Picked, Cleared}
+use Rattle.selection.specs.Linked.{valueOf, withPoint, reaches, selected, offered, proposed, Holds, Picked, Linked, Cleared}
 use Rattle.selection.specs.Running.{costBefore, run, stretchFrom}
 use Rattle.selection.specs.Selections.{Chosen, joinedAt}
 use Rattle.selection.proofs.Best as best
@@ -165,3 +167,21 @@ module _ {V : Type 0} (before : V → V → Bool) (none : V) (join : V → Point
         let r = value-some (selected before none join t limit (suc i)) v e in
         let o = law.own before none join (costAt t) (pointAt t) limit asym chain i (r .0) (r .1) in
         reached-weak i 62 v (subst (Reached none join i) (sym (o .value) ∙ r .2) (reached-measured (pointAt t) (told (r .0 .word)) i)) (omega (arith, t .count))
+
+    -- ---- the starts that are noted
+
+    pub linked-more : (k : ℕ) (starts : List ℕ) (x : Candidate V) → k < length starts → Linked before none join t limit k starts → Picked before none join t limit k (Some x) → Linked before none join t limit (k + 1) (set starts k (x .start))
+    linked-more k starts x room h p j s l e = ⊎-elim
+        (λ same.
+        let here : getD (set starts k (x .start)) j 0 ≡ x .start = ap (λ i. getD (set starts k (x .start)) i 0) same ∙ getD-set-same starts k (x .start) 0 room in
+        let u = p .0 in
+        let q : _≡_ {A = Option (Chosen V)} (Some u) (Some s) = sym (p .1) ∙ ap (λ i. selected before none join t limit (suc i)) (sym same) ∙ e in
+        (omega (arith, here, p .3), ap₂ (offered before none join t limit) same here ∙ p .4 ∙ q))
+        (λ ne. let r = h j s (omega arith) e in let there = getD-set-other starts k j (x .start) 0 ne in (omega (arith, there, r .0), ap (offered before none join t limit j) there ∙ r .1))
+        (which j k)
+
+    pub linked-none : (k : ℕ) (starts : List ℕ) → Linked before none join t limit k starts → Picked before none join t limit k None → Linked before none join t limit (k + 1) starts
+    linked-none k starts h p j s l e = ⊎-elim
+        (λ same. let q : selected before none join t limit (suc j) ≡ None = ap (λ i. selected before none join t limit (suc i)) same ∙ p in absurd (let z : _≡_ {A = ℕ} 0 1 = cc in omega arith))
+        (λ ne. h j s (omega arith) e)
+        (which j k)

@@ -89,3 +89,37 @@ fn advance<M: Measure>(
     }
     in_reach(heap, task, costs, limit, end)
 }
+
+// The chosen start of the last stretch for each end, and the value of the selection for all blocks.
+#[derive(Clone, Copy)]
+pub(crate) struct Links<M> {
+    pub(crate) starts: [usize; 64],
+    pub(crate) value: Option<M>,
+}
+
+// Goes through the blocks in their order, with at most one push and one pop for each start.
+pub(crate) fn link<M: Measure>(
+    task: &Task,
+    costs: &[u32; 65],
+    limit: Option<u32>,
+    places: &mut [Candidate<M>],
+) -> Links<M>
+    requires space { ⌜ 65 ≤ length (now places) ⌝ }
+    requires costs { ⌜ ((k : ℕ) → k ≤ pointCount (now task) + 1 → getD (now costs) k 0 ≡ costBefore (costAt (now task)) k) ⌝ }
+    ensures linked { λ r. ⌜ Linked (M·TotalOrder .before) (M·Measure .none) (M·Measure .join) (now (task .entry)) limit (pointCount (now (task .entry)) + 1) (r .starts) ⌝ }
+    ensures value { λ r. ⌜ r .value ≡ valueOf (selected (M·TotalOrder .before) (M·Measure .none) (M·Measure .join) (now (task .entry)) limit (pointCount (now (task .entry)) + 1)) ⌝ }
+{
+    let mut heap = Heap::new(places);
+    let mut starts = [0usize; 64];
+    let mut value = Some(M::none());
+    for end in 0..task.block_count() {
+        value = match advance(&mut heap, task, costs, limit, value, end) {
+            Some(picked) => {
+                starts[end] = picked.start;
+                Some(picked.value)
+            }
+            None => None,
+        };
+    }
+    Links { starts, value }
+}
