@@ -1,7 +1,7 @@
 -- From what a sift says of the first slots to what the heap holds after it.
 -- xs is what the slots held at the call, of which n were in use; ys is what they hold as the sift begins; zs is what the sifted part holds after it.
 use mathlib.Core.Path.{_≡_, refl, sym, ap, subst, _∙_}
-use mathlib.Core.Bool.{Bool, false}
+use mathlib.Core.Bool.{Bool}
 use mathlib.Core.List.{List, [], _∷_, _++_}
 use Prim.Native.Nat.{ℕ, _+_, _-_, _≤_, _<_}
 use native.Mathlib.Omega.{arith}

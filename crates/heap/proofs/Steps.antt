@@ -2,7 +2,7 @@
 use mathlib.Core.Path.{_≡_, refl, sym, ap, subst, _∙_}
 use mathlib.Core.Bool.{Bool, true, false}
 use mathlib.Core.List.{List}
-use mathlib.Core.Logic.{_⊎_, ⊎-elim}
+use mathlib.Core.Logic.{⊎-elim}
 use Prim.Native.Nat.{ℕ, zero, suc, _+_, _-_, _*_, _/_, _≤_, _<_}
 use native.Mathlib.Omega.{arith}
 use lib.ListN.{length, getD}
@@ -15,28 +15,26 @@ abbrev pub Swapped : {X : Type 0} → List X → List X → ℕ → ℕ → Type
 Swapped {X} xs ys i j = ((d : X) → getD ys i d ≡ getD xs j d) × ((d : X) → getD ys j d ≡ getD xs i d) × ((k : ℕ) (d : X) → (k ≡ i → ⊥) → (k ≡ j → ⊥) → getD ys k d ≡ getD xs k d)
 
 module _ {X : Type 0} (before : X → X → Bool) where
+  -- at equal items
   along : {a b x y : X} → a ≡ x → b ≡ y → before y x ≡ false → before b a ≡ false
   along p q h = (λ k. before (q k) (p k)) ∙ h
 
   -- ---- the item at j rises
 
-  -- the items but for that at j are a heap, and those below j do not come before those above it
+  -- only the item at j may come before its parent, and no child of it comes before that parent
   pub record Rising (xs : List X) (j n : ℕ) : Type 0 where
-    pub others : (p k : ℕ) (d : X) → p * 2 + 1 ≤ k → k ≤ p * 2 + 2 → k < n → (p ≡ j → ⊥) → (k ≡ j → ⊥) → before (getD xs k d) (getD xs p d) ≡ false
+    pub others : (p k : ℕ) (d : X) → p * 2 + 1 ≤ k → k ≤ p * 2 + 2 → k < n → (k ≡ j → ⊥) → before (getD xs k d) (getD xs p d) ≡ false
     pub around : (p k : ℕ) (d : X) → p * 2 + 1 ≤ j → j ≤ p * 2 + 2 → j * 2 + 1 ≤ k → k ≤ j * 2 + 2 → k < n → before (getD xs k d) (getD xs p d) ≡ false
-    pub below : (k : ℕ) (d : X) → j * 2 + 1 ≤ k → k ≤ j * 2 + 2 → k < n → before (getD xs k d) (getD xs j d) ≡ false
 
   pub rising-begins : (xs : List X) (n : ℕ) → HeapedWithin before xs 0 (n - 1) → Rising xs (n - 1) n
   unfolding HeapedWithin
-  rising-begins xs n h = record { others = λ p k d a b f u v. h p k d (omega arith) a b (omega arith); around = λ p k d a b f g i. absurd (omega arith); below = λ k d a b f. absurd (omega arith) }
+  rising-begins xs n h = record { others = λ p k d a b f u. h p k d (omega arith) a b (omega arith); around = λ p k d a b f g i. absurd (omega arith) }
 
   rising-ends : (xs : List X) (j n : ℕ) → ((p : ℕ) (d : X) → p * 2 + 1 ≤ j → j ≤ p * 2 + 2 → before (getD xs j d) (getD xs p d) ≡ false) → Rising xs j n → HeapedWithin before xs 0 n
   unfolding HeapedWithin
   rising-ends xs j n over h = λ p k d _ a b f. ⊎-elim
-      (λ e. along (ap (λ m. getD xs m d) e) refl (h .below k d (omega arith) (omega arith) f))
-      (λ u. ⊎-elim
       (λ e. along refl (ap (λ m. getD xs m d) e) (over p d (omega arith) (omega arith)))
-      (λ v. h .others p k d a b f u v) (which k j)) (which p j)
+      (h .others p k d a b f) (which k j)
 
   pub rising-tops : (xs : List X) (j n : ℕ) → j ≤ 0 → length xs ≡ n → Rising xs j n → Heaped before xs
   rising-tops xs j n z e h = subst (HeapedWithin before xs 0) (sym e) (rising-ends xs j n (λ p d a b. absurd (omega arith)) h)
@@ -46,7 +44,7 @@ module _ {X : Type 0} (before : X → X → Bool) where
 
   -- ---- the item at j sinks
 
-  -- the items but for that at j are a heap, and those below j do not come before those above it
+  -- only the item at j may have a child that comes before it, and no child of it comes before its parent
   pub record Sinking (xs : List X) (j n : ℕ) : Type 0 where
     pub others : (p k : ℕ) (d : X) → p * 2 + 1 ≤ k → k ≤ p * 2 + 2 → k < n → (p ≡ j → ⊥) → before (getD xs k d) (getD xs p d) ≡ false
     pub around : (p k : ℕ) (d : X) → p * 2 + 1 ≤ j → j ≤ p * 2 + 2 → j * 2 + 1 ≤ k → k ≤ j * 2 + 2 → k < n → before (getD xs k d) (getD xs p d) ≡ false
@@ -63,20 +61,19 @@ module _ {X : Type 0} (before : X → X → Bool) where
     -- from c to its parent j, which it comes before
     pub rises : (xs ys : List X) (j c n : ℕ) → j * 2 + 1 ≤ c → c ≤ j * 2 + 2 → c < n → Swapped xs ys j c → ((d : X) → true ≡ before (getD xs c d) (getD xs j d)) → Rising xs c n → Rising ys j n
     rises xs ys j c n from to in′ s t h = record {
-      others = λ p k d a b f u v. ⊎-elim
-          (λ e. along (ap (λ m. getD ys m d) e ∙ s .1 d) (s .2 k d v (omega arith)) (h .around j k d from to (omega arith) (omega arith) f))
-          (λ w. let z : k ≡ c → ⊥ = omega arith in along (s .2 p d u w) (s .2 k d v z) (h .others p k d a b f w z)) (which p c);
+      others = λ p k d a b f u. ⊎-elim
+          (λ e. ⊎-elim
+          (λ v. along (ap (λ m. getD ys m d) e ∙ s .0 d) (ap (λ m. getD ys m d) v ∙ s .1 d) (asym _ _ (sym (t d))))
+          (λ v. along (ap (λ m. getD ys m d) e ∙ s .0 d) (s .2 k d u v) (chain _ _ _ (h .others j k d (omega arith) (omega arith) f v) (asym _ _ (sym (t d))))) (which k c))
+          (λ w. let z : k ≡ c → ⊥ = omega arith in ⊎-elim
+          (λ v. along (ap (λ m. getD ys m d) v ∙ s .1 d) (s .2 k d u z) (h .around j k d from to (omega arith) (omega arith) f))
+          (λ v. along (s .2 p d w v) (s .2 k d u z) (h .others p k d a b f z)) (which p c)) (which p j);
       around = λ p k d a b f g i.
-          let over = h .others p j d a b (omega arith) (omega arith) (omega arith) in
+          let over = h .others p j d a b (omega arith) (omega arith) in
           let same = s .2 p d (omega arith) (omega arith) in
           ⊎-elim
           (λ e. along same (ap (λ m. getD ys m d) e ∙ s .1 d) over)
-          (λ w. along same (s .2 k d (omega arith) w) (chain _ _ _ (h .others j k d f g i (omega arith) w) over)) (which k c);
-      below = λ k d a b f.
-          let less = asym _ _ (sym (t d)) in
-          ⊎-elim
-          (λ e. along (s .0 d) (ap (λ m. getD ys m d) e ∙ s .1 d) less)
-          (λ w. along (s .0 d) (s .2 k d (omega arith) w) (chain _ _ _ (h .others j k d a b f (omega arith) w) less)) (which k c);
+          (λ w. along same (s .2 k d (omega arith) w) (chain _ _ _ (h .others j k d f g i w) over)) (which k c);
     }
 
     irrefl : (x : X) (b : Bool) → before x x ≡ b → before x x ≡ false

@@ -94,9 +94,9 @@ impl<'a, T: TotalOrder> Heap<'a, T> {
         if n == 0 {
             return None;
         }
-        let least = self.slots[0];
+        let replaced = self.slots[0];
         self.slots[0] = x;
         sift_down(&mut self.slots[0..n]);
-        Some(least)
+        Some(replaced)
     }
 }
