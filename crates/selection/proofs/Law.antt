@@ -115,7 +115,7 @@ module _ {V : Type 0} (before : V → V → Bool) (none : V) (join : V → Point
   length-selections zero = refl
   length-selections (suc k) = ap suc (length-selections k)
 
-  some-joined : (i : ℕ) (x : Option (Chosen V)) (s : Chosen V) → joinedAt before none join cost point limit i x ≡ Some s → (u : Chosen V) × (x ≡ Some u) × (s ≡ record { value = join (u .value) (point i); word = u .word + 2 ^ i })
+  pub some-joined : (i : ℕ) (x : Option (Chosen V)) (s : Chosen V) → joinedAt before none join cost point limit i x ≡ Some s → (u : Chosen V) × (x ≡ Some u) × (s ≡ record { value = join (u .value) (point i); word = u .word + 2 ^ i })
   some-joined i None s e = absurd (let z : _≡_ {A = ℕ} 0 1 = cc in omega arith)
   some-joined i (Some u) s e = (u, refl, cc)
 

@@ -35,6 +35,10 @@ use Rattle.selection.proofs.Best as best
 use Rattle.selection.proofs.Items.{has-first, has-later, has-cases, has-none}
 use Rattle.selection.proofs.Law as law
 
+pub value-none : {V : Type 0} (x : Option (Chosen V)) → valueOf x ≡ None → x ≡ None
+value-none None e = refl
+value-none (Some s) e = absurd (let z : _≡_ {A = ℕ} 0 1 = cc in omega arith)
+
 -- a stretch only grows with its end
 pub grows : (t : Task) (limit : Option ℕ) (k m j : ℕ) → k ≤ m → reaches t limit k j ≡ false → reaches t limit m j ≡ false
 grows t limit k m j h e = longer limit (lengths j) e
@@ -55,7 +59,7 @@ module _ {V : Type 0} (before : V → V → Bool) (none : V) (join : V → Point
     offered-is k zero = refl
     offered-is k (suc i) = refl
 
-    value-some : (x : Option (Chosen V)) (v : V) → valueOf x ≡ Some v → (s : Chosen V) × (x ≡ Some s) × (s .value ≡ v)
+    pub value-some : (x : Option (Chosen V)) (v : V) → valueOf x ≡ Some v → (s : Chosen V) × (x ≡ Some s) × (s .value ≡ v)
     value-some None v e = absurd (let z : _≡_ {A = ℕ} 0 1 = cc in omega arith)
     value-some (Some s) v e = (s, refl, cc)
 
@@ -66,11 +70,7 @@ module _ {V : Type 0} (before : V → V → Bool) (none : V) (join : V → Point
 
     proposes-none : (k : ℕ) → valueOf (selected before none join t limit k) ≡ None → proposed before none join t limit k ≡ None
     proposes-none zero e = absurd (let z : _≡_ {A = ℕ} 0 1 = cc in omega arith)
-    proposes-none (suc i) e = ap (joinedAt before none join (costAt t) (pointAt t) limit i) (nothing (selected before none join t limit (suc i)) e)
-      where
-        nothing : (x : Option (Chosen V)) → valueOf x ≡ None → x ≡ None
-        nothing None h = refl
-        nothing (Some s) h = absurd (let z : _≡_ {A = ℕ} 0 1 = cc in omega arith)
+    proposes-none (suc i) e = ap (joinedAt before none join (costAt t) (pointAt t) limit i) (value-none (selected before none join t limit (suc i)) e)
 
     -- ---- the candidate of block k is put among the others, or there is none
 

@@ -2,4 +2,5 @@
 pub mod answer;
 pub mod candidate;
 mod lengths;
+pub mod selecting;
 mod starts;
