@@ -7,7 +7,7 @@ ghost use Rattle.std.specs.Of.Vec.{vec-items};
 ghost use Rattle.std.specs.Results.{isOk, Cases};
 ghost use Rattle.tasks.specs.Choices.{told};
 ghost use Rattle.tasks.specs.Tasks.{pointCount, costAt, pointAt, costOf, longestOf, pointsOf};
-ghost use Rattle.tasks.specs.Under.{under, ListedUnder};
+ghost use Rattle.tasks.specs.Under.{under, ListedUnder, StretchesUnder};
 use crate::model::Task;
 use crate::refusals::Refusal;
 use std::alloc::Global;
@@ -106,5 +106,52 @@ impl Task {
             rest -= 1 << index;
         }
         Ok(list)
+    }
+}
+
+// A stretch (non-preemptive region) of a task: the numbers of its first and last blocks, from 1, and its length in ticks.
+#[derive(Clone, Copy, PartialEq, Eq, Debug)]
+pub struct Stretch {
+    pub first: u32,
+    pub last: u32,
+    pub length: u32,
+}
+
+impl Task {
+    // The stretches under a word, in their order.
+    pub fn stretches(&self, heap: Global, word: u64) -> Result<Vec<Stretch>, Refusal>
+        ensures { λ r. ⌜ StretchesUnder (now (self .entry)) word r ⌝ }
+    {
+        if !self.admits(word) {
+            return Err(Refusal::OutOfRange);
+        }
+        let mut list = Vec::new(heap);
+        let mut first = 1;
+        let mut length = self.cost_at(0);
+        for i in 0..self.points.len() {
+            if is_chosen(word, i) {
+                let last = i as u32 + 1;
+                if list.push(Stretch {
+                        first,
+                        last,
+                        length,
+                    })
+                    .is_err() {
+                    return Err(Refusal::NoMemory);
+                }
+                first = last + 1;
+                length = self.ticks_at(i);
+            }
+            length += self.cost_at(i + 1);
+        }
+        let last = self.block_count() as u32;
+        match list.push(Stretch {
+            first,
+            last,
+            length,
+        }) {
+            Ok(()) => Ok(list),
+            Err(_) => Err(Refusal::NoMemory),
+        }
     }
 }
