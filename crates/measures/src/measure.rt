@@ -3,11 +3,6 @@ ghost use mathlib.Core.Bool.{Bool, true, false};
 ghost use Prim.Native.Nat.{ℕ, _+_, _≤_};
 ghost use Rattle.tasks.specs.declared.points.Point.{Point};
 ghost use Rattle.measures.specs.Joins.{Reached};
-ghost use Rattle.measures.specs.Orders.{fewerTicks, fewerTicksCharge};
-use crate::values::Ticks;
-use crate::values::TicksCharge;
-use crate::values::TicksChargeOrd;
-use crate::values::TicksOrd;
 use heap::TotalOrder;
 use tasks::points::Point;
 
@@ -44,60 +39,4 @@ pub trait Measure: TotalOrder {
     fn ticks(&self) -> u32
         requires { ⌜ Reached none join 63 (now self) ⌝ }
         ensures { λ r. ⌜ r ≡ ticks (now (self .entry)) ⌝ };
-}
-
-pub impl TotalOrder for Ticks as TicksOrder {
-    ghost before = { fewerTicks };
-}
-
-pub impl Measure for Ticks as TicksMeasure {
-    ghost none = { record { ticks = 0 } };
-
-    ghost join = { λ v p. record { ticks = v .ticks + p .ticks } };
-
-    ghost ticks = { λ v. v .ticks };
-
-    fn none() -> Ticks {
-        Ticks { ticks: 0 }
-    }
-
-    fn join(self, p: Point) -> Ticks {
-        Ticks {
-            ticks: self.ticks + p.ticks(),
-        }
-    }
-
-    fn ticks(&self) -> u32 {
-        self.ticks
-    }
-}
-
-pub impl TotalOrder for TicksCharge as TicksChargeOrder {
-    ghost before = { fewerTicksCharge };
-}
-
-pub impl Measure for TicksCharge as TicksChargeMeasure {
-    ghost none = { record { ticks = 0; charge = 0 } };
-
-    ghost join = { λ v p. record { ticks = v .ticks + p .ticks; charge = v .charge + p .charge } };
-
-    ghost ticks = { λ v. v .ticks };
-
-    fn none() -> TicksCharge {
-        TicksCharge {
-            ticks: 0,
-            charge: 0,
-        }
-    }
-
-    fn join(self, p: Point) -> TicksCharge {
-        TicksCharge {
-            ticks: self.ticks + p.ticks(),
-            charge: self.charge + u32::from(p.charge()),
-        }
-    }
-
-    fn ticks(&self) -> u32 {
-        self.ticks
-    }
 }

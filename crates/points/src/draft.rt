@@ -45,7 +45,7 @@ pub struct Draft {
 }
 
 impl Draft {
-    pub fn new(heap: Global) -> Draft {
+    pub(crate) fn new(heap: Global) -> Draft {
         Draft {
             clock: None,
             blocks: Vec::new(heap),
@@ -111,7 +111,7 @@ impl Draft {
         Ok(())
     }
 
-    pub fn add(&mut self, line: Line) -> Result<(), Problem> {
+    pub(crate) fn add(&mut self, line: Line) -> Result<(), Problem> {
         match line {
             Line::Blank => Ok(()),
             Line::Task {
@@ -126,7 +126,7 @@ impl Draft {
     }
 
     // The task and what is asked of it.
-    pub fn finish(self) -> Result<(Task, Vec<Ask>), Problem> {
+    pub(crate) fn finish(self) -> Result<(Task, Vec<Ask>), Problem> {
         let Draft {
             clock,
             blocks,

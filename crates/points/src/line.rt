@@ -62,7 +62,7 @@ fn measure(word: Option<&str>) -> Result<By, Problem> {
 }
 
 // What a line says: empty lines and those that begin with # say nothing.
-pub fn read_line(text: &str) -> Result<Line, Problem> {
+pub(crate) fn read_line(text: &str) -> Result<Line, Problem> {
     let mut words = text.split_whitespace();
     let first = words.next();
     let a = words.next();

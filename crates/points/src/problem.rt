@@ -26,7 +26,7 @@ pub enum Problem {
 }
 
 impl Problem {
-    pub fn text(self) -> &'static str {
+    pub(crate) fn text(self) -> &'static str {
         match self {
             Problem::UnknownWord => "expected 'task', 'block', 'point' or 'limit'",
             Problem::MissingNumber => "a number is missing",

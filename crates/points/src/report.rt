@@ -1,9 +1,9 @@
 use crate::draft::Ask;
 use crate::draft::AskDisplay;
 use crate::line::By;
+use measures::by_charge::TicksChargeMeasure;
+use measures::by_ticks::TicksMeasure;
 use measures::measure::Measure;
-use measures::measure::TicksChargeMeasure;
-use measures::measure::TicksMeasure;
 use measures::values::Ticks;
 use measures::values::TicksCharge;
 use selection::answer::Selection;
@@ -106,7 +106,7 @@ fn print_found(rt: &LibcRuntime, task: &Task, ask: Ask, found: Answer) -> Result
 }
 
 // The answer to one question.
-pub fn print_answer(rt: &LibcRuntime, task: &Task, ask: Ask) -> Result<(), AnyError> {
+pub(crate) fn print_answer(rt: &LibcRuntime, task: &Task, ask: Ask) -> Result<(), AnyError> {
     match find_points(task, ask) {
         Ok(Some(found)) => print_found(rt, task, ask, found),
         Ok(None) => {

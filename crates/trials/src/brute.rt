@@ -58,7 +58,7 @@ fn agrees<M: Measure>(
 }
 
 impl Tally {
-    pub fn new() -> Tally {
+    pub(crate) fn new() -> Tally {
         Tally {
             asked: 0,
             answered: 0,
@@ -67,7 +67,7 @@ impl Tally {
         }
     }
 
-    pub fn compare<M: Measure>(
+    pub(crate) fn compare<M: Measure>(
         &mut self,
         task: &Task,
         limit: Option<u32>,

@@ -6,8 +6,8 @@ mod random;
 
 use brute::Tally;
 use brute::TallyDisplay;
-use measures::measure::TicksChargeMeasure;
-use measures::measure::TicksMeasure;
+use measures::by_charge::TicksChargeMeasure;
+use measures::by_ticks::TicksMeasure;
 use measures::values::Ticks;
 use measures::values::TicksCharge;
 use random::Random;

@@ -12,12 +12,12 @@ pub struct Random {
 }
 
 impl Random {
-    pub fn new(seed: u64) -> Random {
+    pub(crate) fn new(seed: u64) -> Random {
         Random { state: seed }
     }
 
     // A number below `end`; 0 where `end` is 0.
-    pub fn below(&mut self, end: u32) -> u32
+    pub(crate) fn below(&mut self, end: u32) -> u32
         ensures { λ r. ⌜ (0 < end → r < end) ⌝ }
     {
         self.state = self.state
@@ -31,7 +31,7 @@ impl Random {
     }
 
     // A limit, or none now and then.
-    pub fn limit(&mut self) -> Option<u32> {
+    pub(crate) fn limit(&mut self) -> Option<u32> {
         if self.below(16) == 0 {
             return None;
         }
@@ -39,7 +39,7 @@ impl Random {
     }
 
     // A task of one to nine small blocks.
-    pub fn task(&mut self, heap: Global) -> Result<Task, Refusal> {
+    pub(crate) fn task(&mut self, heap: Global) -> Result<Task, Refusal> {
         let count = 1 + self.below(9);
         let mut blocks = Vec::new(heap);
         let mut points = Vec::new(heap);
