@@ -1,3 +1,3 @@
 pub mod Joins
-pub mod Orders
+pub mod Weights
 pub mod Measuring

@@ -1,8 +1,5 @@
 // The measure that counts ticks, then charge.
-ghost use mathlib.Core.Path.{_≡_};
-ghost use mathlib.Core.Bool.{true, false};
-ghost use Prim.Native.Nat.{_+_};
-ghost use Rattle.measures.specs.Orders.{fewerTicksCharge};
+ghost use Rattle.measures.specs.Weights.{noTicksCharge, joinTicksCharge, fewerTicksCharge};
 use crate::measure::Measure;
 use crate::values::TicksCharge;
 use crate::values::TicksChargeOrd;
@@ -14,9 +11,9 @@ pub impl TotalOrder for TicksCharge as TicksChargeOrder {
 }
 
 pub impl Measure for TicksCharge as TicksChargeMeasure {
-    ghost none = { record { ticks = 0; charge = 0 } };
+    ghost none = { noTicksCharge };
 
-    ghost join = { λ v p. record { ticks = v .ticks + p .ticks; charge = v .charge + p .charge } };
+    ghost join = { joinTicksCharge };
 
     ghost ticks = { λ v. v .ticks };
 

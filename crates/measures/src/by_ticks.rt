@@ -1,8 +1,5 @@
 // The measure that counts ticks alone.
-ghost use mathlib.Core.Path.{_≡_};
-ghost use mathlib.Core.Bool.{true, false};
-ghost use Prim.Native.Nat.{_+_};
-ghost use Rattle.measures.specs.Orders.{fewerTicks};
+ghost use Rattle.measures.specs.Weights.{noTicks, joinTicks, fewerTicks};
 use crate::measure::Measure;
 use crate::values::Ticks;
 use crate::values::TicksOrd;
@@ -14,9 +11,9 @@ pub impl TotalOrder for Ticks as TicksOrder {
 }
 
 pub impl Measure for Ticks as TicksMeasure {
-    ghost none = { record { ticks = 0 } };
+    ghost none = { noTicks };
 
-    ghost join = { λ v p. record { ticks = v .ticks + p .ticks } };
+    ghost join = { joinTicks };
 
     ghost ticks = { λ v. v .ticks };
 

@@ -145,14 +145,14 @@ module _ {V : Type 0} (before : V → V → Bool) (none : V) (join : V → Point
 
     own-of : (k j : ℕ) (s : Chosen V) → j < suc k → off k j ≡ Some s → ((i : ℕ) (u : Chosen V) → i < k → sel (suc i) ≡ Some u → Own i u) → Own k s
     own-of k zero s l e rest =
-        let r = some-cond _ _ s e in
+        let r = some-cond (within limit (run cost k 0)) (sel 0) s e in
         subst (Own k) (cc (r .1)) (record {
           small = pow-pos k;
           value = sym (bare-measured none join cost point k);
           fits = subst (AllWithin limit) (sym (bare-stretches none join cost point k)) (r .0, tt);
         })
     own-of k (suc i) s l e rest =
-        let r = some-cond _ _ s e in
+        let r = some-cond (within limit (point i .ticks + run cost k (suc i))) (joinedAt before none join cost point limit i (sel (suc i))) s e in
         let q = some-joined i (sel (suc i)) s (r .1) in
         let u = q .0 in
         let was = rest i u (omega arith) (q .1) in

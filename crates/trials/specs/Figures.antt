@@ -1,8 +1,7 @@
 -- Worked figures of one task, over the definitions.
 use mathlib.Core.Path.{_≡_}
-use mathlib.Core.Bool.{Bool}
 use mathlib.Core.List.{List, [], _∷_}
-use Prim.Native.Nat.{ℕ, _+_}
+use Prim.Native.Nat.{ℕ}
 use lib.Dec.{lit≤}
 use lib.ListN.{getD}
 use Rattle.std.specs.declared.option.Option.{Option}
@@ -10,9 +9,7 @@ use Rattle.std.specs.declared.option.Option.the-variants.{Some, None}
 use Rattle.tasks.specs.declared.points.Point.{Point}
 use Rattle.tasks.specs.Choices.{told, stretches, total, rising, greatest}
 use Rattle.tasks.specs.Tasks.{noPoint}
-use Rattle.measures.specs.declared.values.Ticks.{Ticks}
-use Rattle.measures.specs.declared.values.TicksCharge.{TicksCharge}
-use Rattle.measures.specs.Orders.{fewerTicks, fewerTicksCharge}
+use Rattle.measures.specs.Weights.{noTicks, joinTicks, fewerTicks, noTicksCharge, joinTicksCharge, fewerTicksCharge}
 use Rattle.selection.specs.Selections.{Chosen, selection}
 
 -- six blocks of 2, 2, 2, 1, 2 and 3 ticks
@@ -35,10 +32,10 @@ figures None = None
 figures (Some s) = Some (total cost point (told (s .word)) 5, rising (told (s .word)) 5, greatest (stretches cost point (told (s .word)) 5 0))
 
 abbrev byTicks : ℕ → Option (ℕ × List ℕ × ℕ)
-byTicks limit = figures (selection fewerTicks (record { ticks = 0 }) (λ v p. record { ticks = v .ticks + p .ticks }) cost point (Some limit) 6)
+byTicks limit = figures (selection fewerTicks noTicks joinTicks cost point (Some limit) 6)
 
 abbrev byTicksCharge : ℕ → Option (ℕ × List ℕ × ℕ)
-byTicksCharge limit = figures (selection fewerTicksCharge (record { ticks = 0; charge = 0 }) (λ v p. record { ticks = v .ticks + p .ticks; charge = v .charge + p .charge }) cost point (Some limit) 6)
+byTicksCharge limit = figures (selection fewerTicksCharge noTicksCharge joinTicksCharge cost point (Some limit) 6)
 
 pub record Figures : Type 0 where
   pub eight : byTicks 8 ≡ Some (14, 1 ∷ 5 ∷ [], 8)
