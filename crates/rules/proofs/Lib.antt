@@ -1,0 +1,2 @@
+pub mod Ints
+pub mod Demands

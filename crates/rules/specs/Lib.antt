@@ -1,0 +1,5 @@
+pub mod Tables
+pub mod Slacks
+pub mod Peaks
+pub mod Layers
+pub mod Laws
