@@ -5,3 +5,5 @@ pub mod Layers
 pub mod Laws
 pub mod Multiples
 pub mod Walks
+pub mod Tolerances
+pub mod Figures

@@ -1,6 +1,6 @@
-ghost use mathlib.Core.Path.{_≡_};
 ghost use Rattle.rules.specs.Slacks.{slackAt};
 ghost use Rattle.rules.specs.Tables.{deadlineAt};
+ghost use Rattle.rules.specs.Tolerances.{deadlineTolerance};
 use crate::answer::Answer;
 use crate::rule::Rule;
 use crate::slack::left;
@@ -14,7 +14,7 @@ pub struct Deadline;
 pub impl Rule for Deadline as DeadlineRule {
     ghost slack = { λ s ts p t. slackAt ts p t };
 
-    ghost tolerance = { λ s ts p. slackAt ts p (deadlineAt ts p) };
+    ghost tolerance = { λ s ts p. deadlineTolerance ts p };
 
     ghost moment = { λ s ts p. deadlineAt ts p };
 

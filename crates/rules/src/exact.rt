@@ -4,9 +4,9 @@ ghost use lib.Signed.{ltZ};
 ghost use Rattle.std.specs.shelf.Lists.{sumBy};
 ghost use Rattle.heap.specs.Held.{size, room, held, Good};
 ghost use Rattle.rules.specs.Multiples.{sooner};
-ghost use Rattle.rules.specs.Peaks.{peak};
 ghost use Rattle.rules.specs.Slacks.{slackAt};
-ghost use Rattle.rules.specs.Tables.{Asked, deadlineAt};
+ghost use Rattle.rules.specs.Tables.{Asked};
+ghost use Rattle.rules.specs.Tolerances.{exactMoment, exactTolerance};
 ghost use Rattle.rules.specs.Walks.{Holds, carried};
 use crate::answer::Answer;
 use crate::multiple::Multiple;
@@ -23,9 +23,9 @@ pub struct Exact;
 pub impl Rule for Exact as ExactRule {
     ghost slack = { λ s ts p t. slackAt ts p t };
 
-    ghost tolerance = { λ s ts p. slackAt ts p (peak (slackAt ts p) (deadlineAt ts p)) };
+    ghost tolerance = { λ s ts p. exactTolerance ts p };
 
-    ghost moment = { λ s ts p. peak (slackAt ts p) (deadlineAt ts p) };
+    ghost moment = { λ s ts p. exactMoment ts p };
 
     fn ask(&self, tasks: &[Timing], place: usize) -> Answer {
         let mut slots = [Multiple { at: 0, task: 0 }; 32];
@@ -64,8 +64,8 @@ fn walk(heap: &mut Heap<'_, Multiple>, tasks: &[Timing], place: usize, first: u6
     requires size { ⌜ size (now heap) ≡ place ⌝ }
     requires holds { ⌜ Holds (now tasks) place 0 (held (now heap)) ⌝ }
     requires demand { ⌜ first ≡ sumBy (carried (now tasks)) (held (now heap)) ⌝ }
-    ensures tolerance { λ r. ⌜ r .tolerance ≡ slackAt (now (tasks .entry)) place (peak (slackAt (now (tasks .entry)) place) (deadlineAt (now (tasks .entry)) place)) ⌝ }
-    ensures moment { λ r. ⌜ r .moment ≡ peak (slackAt (now (tasks .entry)) place) (deadlineAt (now (tasks .entry)) place) ⌝ }
+    ensures tolerance { λ r. ⌜ r .tolerance ≡ exactTolerance (now (tasks .entry)) place ⌝ }
+    ensures moment { λ r. ⌜ r .moment ≡ exactMoment (now (tasks .entry)) place ⌝ }
 {
     let deadline = tasks[place - 1].deadline();
     let mut demand = first;
