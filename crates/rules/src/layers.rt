@@ -13,6 +13,18 @@ use tasks::timings::Timing;
 
 const LOWEST: i64 = -1_000_000_000_000_000;
 
+// A layer's ticks: 0 to 1,000,000.
+fn in_range(ticks: u32) -> Result<u32, Refusal>
+    ensures test { λ r. ⌜ isOk r ≡ leb ticks 1000000 ⌝ }
+    ensures made { λ r. ⌜ made r (λ n. (n ≡ ticks) × (n ≤ 1000000)) ⌝ }
+    ensures refused { λ r. ⌜ refused r (λ e. e ≡ OutOfRange) ⌝ }
+{
+    if 1_000_000 < ticks {
+        return Err(Refusal::OutOfRange);
+    }
+    Ok(ticks)
+}
+
 // Keeps some ticks back: each slack and each tolerance of the rule below is lower by them, but never below -10^15.
 #[derive(Drop)]
 pub struct Reserve<R> {
@@ -28,9 +40,7 @@ impl<R: Drop> Reserve<R> {
         ensures made { λ r. ⌜ made r (λ s. (s .below ≡ below) × (s .ticks ≡ ticks)) ⌝ }
         ensures refused { λ r. ⌜ refused r (λ e. e ≡ OutOfRange) ⌝ }
     {
-        if 1_000_000 < ticks {
-            return Err(Refusal::OutOfRange);
-        }
+        let ticks = in_range(ticks)?;
         Ok(Reserve { below, ticks })
     }
 }
@@ -67,9 +77,7 @@ impl<R: Drop> Cap<R> {
         ensures made { λ r. ⌜ made r (λ s. (s .below ≡ below) × (s .ticks ≡ ticks)) ⌝ }
         ensures refused { λ r. ⌜ refused r (λ e. e ≡ OutOfRange) ⌝ }
     {
-        if 1_000_000 < ticks {
-            return Err(Refusal::OutOfRange);
-        }
+        let ticks = in_range(ticks)?;
         Ok(Cap { below, ticks })
     }
 }
