@@ -25,7 +25,3 @@ pub record FirstGreatest (ts : List Timing) (p m : ℕ) : Type 0 where
   pub to : m ≤ deadlineAt ts p
   pub greatest : (t : ℕ) → 1 ≤ t → t ≤ deadlineAt ts p → slackAt ts p t ≤ℤ slackAt ts p m
   pub first : (t : ℕ) → 1 ≤ t → t < m → slackAt ts p t <ℤ slackAt ts p m
-
--- the exact rule in these words, for every table and place
-abbrev pub ExactIsFirstGreatest : Type 0
-ExactIsFirstGreatest = (ts : List Timing) (p : ℕ) → FirstGreatest ts p (exactMoment ts p)

@@ -21,7 +21,7 @@ module _ (ts : List Timing) where
     pub after : met ≤ x .at
     pub next : x .at ≤ met + taskOf x .period
 
-  -- what the task of x asks for up to x, and from the multiple before on
+  -- what its task asks for at each moment after the multiple before x and up to x
   unfoldable pub carried : Multiple → ℕ
   carried x = taskOf x .cost * (x .at / taskOf x .period)
 

@@ -6,7 +6,7 @@ ghost use Rattle.heap.specs.Held.{size, room, held, Good};
 ghost use Rattle.rules.specs.Multiples.{sooner};
 ghost use Rattle.rules.specs.Slacks.{slackAt};
 ghost use Rattle.rules.specs.Tables.{Asked};
-ghost use Rattle.rules.specs.Tolerances.{exactMoment, exactTolerance};
+ghost use Rattle.rules.specs.Tolerances.{exactMoment, exactTolerance, FirstGreatest};
 ghost use Rattle.rules.specs.Walks.{Holds, carried};
 use crate::answer::Answer;
 use crate::multiple::Multiple;
@@ -27,7 +27,12 @@ pub impl Rule for Exact as ExactRule {
 
     ghost moment = { λ s ts p. exactMoment ts p };
 
-    fn ask(&self, tasks: &[Timing], place: usize) -> Answer {
+    fn ask(&self, tasks: &[Timing], place: usize) -> Answer
+        requires { ⌜ Asked (now tasks) place ⌝ }
+        ensures tolerance { λ r. ⌜ r .tolerance ≡ exactTolerance (now (tasks .entry)) place ⌝ }
+        ensures moment { λ r. ⌜ r .moment ≡ exactMoment (now (tasks .entry)) place ⌝ }
+        ensures greatest { λ r. ⌜ FirstGreatest (now (tasks .entry)) place (r .moment) ⌝ }
+    {
         let mut slots = [Multiple { at: 0, task: 0 }; 32];
         let mut heap = Heap::new(&mut slots);
         let demand = release(&mut heap, tasks, place);

@@ -2,7 +2,7 @@
 pub mod answer;
 pub mod deadline;
 pub mod exact;
-pub mod facts;
+pub mod figures;
 pub mod layers;
 mod multiple;
 pub mod rule;

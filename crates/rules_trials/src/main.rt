@@ -6,16 +6,23 @@ mod scan;
 mod speed;
 mod trials;
 
+use crate::figures::Figures;
+use crate::figures::FiguresDisplay;
+use crate::trials::Tally;
 use crate::trials::TallyDisplay;
 use std::io;
+use tasks::refusals::Refusal;
+
+fn tried() -> Result<(Figures, Tally), Refusal> {
+    Ok((figures::told()?, trials::run(4000)?))
+}
 
 fn main(rt: LibcRuntime) -> io::Result<()> {
-    if let Err(e) = figures::print(&rt)? {
-        let number = e.number();
-        println!(rt, "refused: {number}")?;
-    }
-    match trials::run(4000) {
-        Ok(tally) => println!(rt, "{tally}")?,
+    match tried() {
+        Ok((figures, tally)) => {
+            println!(rt, "{figures}")?;
+            println!(rt, "{tally}")?;
+        }
         Err(e) => {
             let number = e.number();
             println!(rt, "refused: {number}")?;

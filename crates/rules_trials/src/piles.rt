@@ -1,5 +1,8 @@
 // Layers in either order.
 ghost use mathlib.Core.Path.{_≡_};
+ghost use mathlib.Core.Bool.{_&&_};
+ghost use lib.Dec.{leb};
+ghost use Rattle.std.specs.Results.{isOk};
 ghost use Rattle.std.specs.Vec.{made};
 ghost use Rattle.rules.specs.Layers.{reserved, capped};
 ghost use Rattle.rules.specs.Tables.{Asked};
@@ -23,6 +26,7 @@ pub fn cap_on_reserve(
     cap: u32,
 ) -> Result<Answer, Refusal>
     requires { ⌜ Asked (now tasks) place ⌝ }
+    ensures test { λ r. ⌜ isOk r ≡ (leb reserve 1000000 && leb cap 1000000) ⌝ }
     ensures tolerance { λ r. ⌜ made r (λ a. a .tolerance ≡ capped cap (reserved reserve (exactTolerance (now (tasks .entry)) place))) ⌝ }
     ensures moment { λ r. ⌜ made r (λ a. a .moment ≡ exactMoment (now (tasks .entry)) place) ⌝ }
 {
@@ -38,6 +42,7 @@ pub fn reserve_on_cap(
     cap: u32,
 ) -> Result<Answer, Refusal>
     requires { ⌜ Asked (now tasks) place ⌝ }
+    ensures test { λ r. ⌜ isOk r ≡ (leb reserve 1000000 && leb cap 1000000) ⌝ }
     ensures tolerance { λ r. ⌜ made r (λ a. a .tolerance ≡ reserved reserve (capped cap (exactTolerance (now (tasks .entry)) place))) ⌝ }
     ensures moment { λ r. ⌜ made r (λ a. a .moment ≡ exactMoment (now (tasks .entry)) place) ⌝ }
 {

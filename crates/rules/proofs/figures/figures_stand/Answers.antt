@@ -1,7 +1,7 @@
 use mathlib.Core.Path.{refl}
 use Rattle.rules.specs.Peaks.{peak}
 use Rattle.rules.specs.Slacks.{load, slackAt}
-use Rattle.rules.proofs.facts.figures_stand.Needs as need
+use Rattle.rules.proofs.figures.figures_stand.Needs as need
 
 pub returns : need.returns
 unfolding load slackAt peak
