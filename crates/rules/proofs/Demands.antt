@@ -1,18 +1,18 @@
 -- Loads, demands and slacks: their bounds, and what two tables share.
-use mathlib.Core.Path.{_≡_, refl, ap, _∙_, sym, subst}
+use mathlib.Core.Path.{_≡_, ap, _∙_, sym, subst}
 use mathlib.Core.List.{List, [], _∷_}
-use Prim.Native.Nat.{ℕ, zero, suc, _+_, _-_, _*_, _/_, _<_, _≤_}
+use Prim.Native.Nat.{ℕ, _+_, _-_, _*_, _/_, _<_, _≤_}
 use native.Mathlib.Nat.{mul-le-mul, mul-le-mul-right, div-lt-iff-lt-mul, le-refl}
 use native.Mathlib.Omega.{arith}
 use lib.ListN.{length, take, getD}
 use lib.Seq.{getD-take}
 use lib.IntN.{ℤ, pos, _-ℤ_}
 use lib.Signed.{_≤ℤ_}
-use Rattle.std.proofs.shelf.Elements.{all-take, all-from-getD, each-getD}
+use Rattle.std.proofs.shelf.Elements.{all-from-getD, each-getD}
 use Rattle.std.proofs.shelf.Lists.{length-take-le}
 use Rattle.std.proofs.shelf.Signed.{ints}
 use Rattle.std.proofs.shelf.Sums.{sumBy-cons, sumBy-le}
-use Rattle.std.specs.shelf.Lists.{All, Each}
+use Rattle.std.specs.shelf.Lists.{Each}
 use Rattle.tasks.specs.declared.timings.Timing.{Timing}
 use Rattle.rules.specs.Layers.{lowest}
 use Rattle.rules.specs.Slacks.{releases, load, demand, slackAt}

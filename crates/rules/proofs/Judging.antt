@@ -1,11 +1,10 @@
 -- The best answer of the walk, as far as it has come.
 use mathlib.Core.Path.{_≡_, refl, sym, ap, ap₂, _∙_, subst}
 use mathlib.Core.Bool.{Bool, true, false, cond}
-use mathlib.Core.List.{List, [], _∷_}
+use mathlib.Core.List.{List, _∷_}
 use mathlib.Core.Logic.{⊎-elim}
-use Prim.Native.Nat.{ℕ, zero, suc, _+_, _*_, _<_, _≤_}
+use Prim.Native.Nat.{ℕ, suc, _+_, _<_, _≤_}
 use native.Mathlib.Omega.{arith}
-use lib.ListN.{length, take}
 use lib.IntN.{ℤ, pos, _-ℤ_}
 use lib.Signed.{ltZ, _<ℤ_, _≤ℤ_}
 use Rattle.std.proofs.shelf.Elements.{all-has, all-weaker}
@@ -16,7 +15,7 @@ use Rattle.std.specs.shelf.Lists.{All, Has, sumBy}
 use Rattle.tasks.specs.declared.timings.Timing.{Timing}
 use Rattle.rules.specs.declared.multiple.Multiple.{Multiple}
 use Rattle.rules.specs.Peaks.{better, peak}
-use Rattle.rules.specs.Slacks.{demand, slackAt}
+use Rattle.rules.specs.Slacks.{slackAt}
 use Rattle.rules.specs.Tables.{Asked, deadlineAt}
 use Rattle.rules.specs.Walks.{taskOf, Next, carried, Holds}
 use Rattle.rules.proofs.Demands.{deadline-small, deadline-first}

@@ -1,22 +1,15 @@
--- The walk over the multiples: what one step does to the heap, the carried demand and the best answer.
-use mathlib.Core.Path.{_≡_, refl, sym, ap, _∙_, subst}
-use mathlib.Core.Bool.{Bool, true, false, cond}
+-- The heap of the next multiples: what one step does to it and to the demand that is carried.
+use mathlib.Core.Path.{_≡_, sym, ap, _∙_}
+use mathlib.Core.Bool.{false}
 use mathlib.Core.List.{List, [], _∷_}
-use mathlib.Core.Logic.{⊎-elim}
-use Prim.Native.Nat.{ℕ, zero, suc, _+_, _-_, _*_, _/_, _<_, _≤_}
+use Prim.Native.Nat.{ℕ, suc, _+_, _-_, _*_, _/_, _<_, _≤_}
 use native.Mathlib.Nat.{le-refl, add-mul, mul-add, mul-one, one-mul, div-self, mul-le-mul-left, add-div-right, div-lt-iff-lt-mul, le-div-iff-mul-le}
 use native.Mathlib.Omega.{arith}
-use native.Mathlib.Numerals.{add-one}
-use lib.Dec.{ltb}
 use lib.ListN.{length, take, getD}
-use lib.IntN.{ℤ, pos, _-ℤ_}
-use lib.Signed.{ltZ, _<ℤ_, _≤ℤ_}
 use Rattle.std.proofs.shelf.Elements.{all-has, all-weaker}
 use Rattle.std.proofs.shelf.Lists.{length-take}
-use Rattle.std.proofs.shelf.Signed.{ints, by-ltZ}
 use Rattle.std.proofs.shelf.Sorted.{all-shuffled, sumBy-shuffled}
 use Rattle.std.proofs.shelf.Sums.{sumBy-cons, sumBy-more}
-use Rattle.std.proofs.shelf.Tests.{cases-lt, cond-true, cond-false}
 use Rattle.std.proofs.shelf.Ways.{tells}
 use Rattle.std.specs.Slices.{Shuffled}
 use Rattle.std.specs.shelf.Lists.{All, Has, sumBy}
@@ -24,12 +17,10 @@ use Rattle.heap.specs.Heaps.{Least}
 use Rattle.tasks.specs.declared.timings.Timing.{Timing}
 use Rattle.rules.specs.declared.multiple.Multiple.{Multiple}
 use Rattle.rules.specs.Multiples.{sooner}
-use Rattle.rules.specs.Peaks.{better, peak}
-use Rattle.rules.specs.Slacks.{releases, load, demand, slackAt}
-use Rattle.rules.specs.Tables.{Asked, noTiming, deadlineAt}
+use Rattle.rules.specs.Slacks.{load, demand}
+use Rattle.rules.specs.Tables.{noTiming}
 use Rattle.rules.specs.Walks.{taskOf, Next, carried, Holds}
-use Rattle.rules.proofs.Demands.{demand-small, deadline-small, deadline-first}
-use Rattle.rules.proofs.Peaks.{lt-ltZ, le-ltZ, peak-most, peak-from, peak-stays, peak-rises}
+use Rattle.rules.proofs.Demands.{demand-small}
 
 sums-le : {X : Type 0} (f g : X → ℕ) (xs : List X) → All (λ x. f x ≤ g x) xs → sumBy f xs ≤ sumBy g xs
 sums-le f g [] h = le-refl _

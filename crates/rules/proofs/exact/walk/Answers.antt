@@ -1,11 +1,10 @@
 use mathlib.Core.Path.{_≡_, refl, sym, ap, subst, _∙_}
 use mathlib.Core.Bool.{cond}
-use mathlib.Core.List.{List, _∷_}
 use Prim.Native.Nat.{_+_, _-_, _<_, _≤_}
 use native.Mathlib.Omega.{arith}
 use lib.IntN.{ℤ, pos, _-ℤ_}
 use lib.Signed.{ltZ, _<ℤ_, _≤ℤ_}
-use lib.ListN.{length, getD}
+use lib.ListN.{length}
 use borrow.Author.Needs.{needs}
 use mir.Syntax.{w64}
 use mir.Val.{SFits}
@@ -13,14 +12,12 @@ use Rattle.std.proofs.shelf.Elements.{all-has, all-weaker}
 use Rattle.std.proofs.shelf.Lists.{getD-read}
 use Rattle.std.proofs.shelf.Results.{cases-at-some}
 use Rattle.std.proofs.shelf.Signed.{ints, toZ-ofZ}
-use Rattle.std.specs.Slices.{Shuffled}
 use Rattle.std.specs.declared.option.Option.the-variants.{Some}
 use Rattle.heap.specs.Held.{size, held}
 use Rattle.tasks.specs.declared.timings.Timing.{Timing}
 use Rattle.rules.specs.declared.multiple.Multiple.{Multiple}
 use Rattle.rules.specs.Tables.{noTiming, deadlineAt}
 use Rattle.rules.specs.Walks.{Next, taskOf}
-use Rattle.rules.proofs.Demands.{deadline-small}
 use Rattle.rules.proofs.Judging.{Walked, sum-small, walk-starts, walk-meets, walk-ends, walk-stops}
 use Rattle.rules.proofs.Steps.{carried-small, least-at}
 use Rattle.rules.proofs.exact.walk.Needs as need

@@ -1,7 +1,7 @@
-use mathlib.Core.Path.{_≡_, refl, sym, ap, _∙_}
-use Prim.Native.Nat.{_+_, _*_, _≤_, _<_}
+use mathlib.Core.Path.{_≡_, ap, _∙_}
+use Prim.Native.Nat.{_*_, _≤_, _<_}
 use native.Mathlib.Omega.{arith}
-use lib.ListN.{take, length, getD}
+use lib.ListN.{take, length}
 use lib.IntN.{pos, _-ℤ_}
 use mir.Syntax.{w64}
 use Rattle.std.proofs.shelf.Lists.{getD-read, length-take-le}

@@ -1,4 +1,4 @@
-use mathlib.Core.Path.{_≡_, sym, ap, _∙_, subst}
+use mathlib.Core.Path.{ap, _∙_, subst}
 use lib.Signed.{_≤ℤ_}
 use Rattle.rules.specs.Slacks.{slackAt}
 use Rattle.rules.specs.Tables.{deadlineAt}
