@@ -1,0 +1,5 @@
+pub mod Ints
+pub mod Demands
+pub mod Peaks
+pub mod Steps
+pub mod Judging

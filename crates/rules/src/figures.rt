@@ -1,0 +1,8 @@
+ghost use Rattle.rules.specs.Figures.{Figures};
+
+// The worked figures are what the definitions say.
+pub fn figures_stand() -> u8
+    ensures { λ _. ⌜ Figures ⌝ }
+{
+    0
+}
