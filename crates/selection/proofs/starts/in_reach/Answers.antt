@@ -16,7 +16,7 @@ use Rattle.selection.proofs.starts.in_reach.Needs as need
 pub stretch-requires : need.stretch-requires
 stretch-requires g c κs =
     let top = c .in-Some .top in
-    record { order = (c .pre .starts top (c .loop-top .inv .1 top (c .in-Some .ensures tt .cases .0)), c .pre .end); costs = c .pre .costs }
+    record { order = (omega (arith, c .pre .starts top (c .loop-top .inv .1 top (c .in-Some .ensures tt .cases .0))), c .pre .end); costs = c .pre .costs }
 
 pub loop-top-again : need.loop-top-again
 loop-top-again g c =
