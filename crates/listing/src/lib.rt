@@ -1,0 +1,4 @@
+// Listings of routines and tasks: the command table, reading, worst costs and loading.
+pub mod fault;
+pub mod reader;
+pub mod table;
