@@ -1,2 +1,4 @@
 pub mod Faults
 pub mod Commands
+pub mod Trees
+pub mod Runs

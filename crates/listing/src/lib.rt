@@ -2,3 +2,4 @@
 pub mod fault;
 pub mod reader;
 pub mod table;
+pub mod walk;
