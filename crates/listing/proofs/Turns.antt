@@ -346,3 +346,6 @@ item-there of d b b′ at c p p′ q r e f t = subst (λ x. ItemTold of r q (ite
 
 pub item-by : (of : ℕ → ℕ) (d : ℕ) (bs : List ℕ) (at : ℕ) (c k : Command) (p q : ℕ) (r : Result ℕ ReadFault) → c ≡ k → ItemTold of r q (itemAt d bs at k p) → ItemTold of r q (itemAt d bs at c p)
 item-by of d bs at c k p q r is t = subst (λ x. ItemTold of r q (itemAt d bs at x p)) (sym is) t
+
+pub told-there : (of : ℕ → ℕ) (d : ℕ) (b b′ : List ℕ) (at p p′ q : ℕ) (r : Result Ran ReadFault) → b ≡ b′ → p ≡ p′ → RunTold of r q (runAt d b at p) → RunTold of r q (runAt d b′ at p′)
+told-there of d b b′ at p p′ q r e f t = subst (λ x. RunTold of r q (runAt d x at p′)) e (subst (λ x. RunTold of r q (runAt d b at x)) f t)

@@ -1,4 +1,6 @@
 pub mod Faults
 pub mod Commands
+pub mod Heads
 pub mod Trees
 pub mod Runs
+pub mod Listings

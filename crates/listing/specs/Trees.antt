@@ -1,4 +1,5 @@
--- A routine's body as a tree, and what it costs. Assumes nothing.
+-- A listing as a tree, and what its runs cost. Assumes nothing.
+use mathlib.Core.List.{List}
 use Prim.Native.Nat.{ℕ, _+_, _*_, max}
 
 -- an item, a run of items, and the arms of an either
@@ -32,3 +33,25 @@ abbrev mutual
   pub costArms : (ℕ → ℕ) → Arms → ℕ
   costArms of (one r) = costRun of r
   costArms of (more r a) = max (costRun of r) (costArms of a)
+
+-- a routine: its code, its offset and its body
+pub record Routine : Type 0 where
+  pub code : ℕ
+  pub at : ℕ
+  pub body : Run
+
+-- the blocks of a task, by their routines' codes, and the ticks and charge of the points between them
+pub data Blocks : Type 0 where
+  final : ℕ → Blocks
+  block : ℕ → ℕ → ℕ → Blocks → Blocks
+
+pub record Task : Type 0 where
+  pub code : ℕ
+  pub at : ℕ
+  pub period : ℕ
+  pub deadline : ℕ
+  pub blocks : Blocks
+
+pub record Listing : Type 0 where
+  pub routines : List Routine
+  pub tasks : List Task

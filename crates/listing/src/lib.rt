@@ -1,5 +1,8 @@
 // Listings of routines and tasks: the command table, reading, worst costs and loading.
 pub mod fault;
+pub mod heads;
+pub mod outline;
+pub mod read;
 pub mod reader;
 pub mod table;
 pub mod walk;
