@@ -122,14 +122,25 @@ told (Ok o) = Ok (held (o .routines), held (o .tasks))
 told (Err f) = Err f
 
 -- the heads of routines, or of tasks, and the place after them
+abbrev pub headsOf : {X : Type 0} → (X → Head) → Result (List X × ℕ) ReadFault → Result (List Head × ℕ) ReadFault
+headsOf h (Ok xs) = Ok (map h (xs .0), xs .1)
+headsOf h (Err f) = Err f
+
 abbrev pub routineHeads : Result (List Routine × ℕ) ReadFault → Result (List Head × ℕ) ReadFault
-routineHeads (Ok rs) = Ok (map routineHead (rs .0), rs .1)
-routineHeads (Err f) = Err f
+routineHeads = headsOf routineHead
 
 abbrev pub taskHeads : Result (List Task × ℕ) ReadFault → Result (List Head × ℕ) ReadFault
-taskHeads (Ok ts) = Ok (map taskHead (ts .0), ts .1)
-taskHeads (Err f) = Err f
+taskHeads = headsOf taskHead
 
 abbrev pub headsAt : Result Heads ReadFault → ℕ → Result (List Head × ℕ) ReadFault
 headsAt (Ok hs) place = Ok (held hs, place)
 headsAt (Err f) place = Err f
+
+-- the place after a task's blocks
+abbrev pub blocksEnd : Result (Blocks × ℕ) ReadFault → Result ℕ ReadFault
+blocksEnd (Ok b) = Ok (b .1)
+blocksEnd (Err f) = Err f
+
+abbrev pub endAt : {X : Type 0} → Result X ReadFault → ℕ → Result ℕ ReadFault
+endAt (Ok x) place = Ok place
+endAt (Err f) place = Err f

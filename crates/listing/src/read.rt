@@ -3,8 +3,9 @@ ghost use mathlib.Core.List.{List, [], _∷_, _++_};
 ghost use mathlib.Core.Path.{_≡_};
 ghost use Prim.Native.Nat.{ℕ, suc, _+_, _<_, _≤_};
 ghost use lib.ListN.{length};
+ghost use Rattle.std.specs.Vec.{made};
 ghost use Rattle.listing.specs.Heads.{held};
-ghost use Rattle.listing.specs.Listings.{routinesFrom, tasksFrom, blocksFrom, listing, outlineOf, told, routineHeads, taskHeads, headsAt};
+ghost use Rattle.listing.specs.Listings.{routinesFrom, tasksFrom, blocksFrom, listing, outlineOf, told, routineHeads, taskHeads, headsAt, blocksEnd, endAt};
 use crate::fault::ReadFault;
 use crate::heads::Head;
 use crate::heads::Heads;
@@ -45,4 +46,70 @@ fn read_routines(reader: &mut Reader) -> Result<Heads, ReadFault>
         };
         heads.add(Head { code, at });
     }
+}
+
+// The blocks and points of a task, to its end.
+fn read_blocks(reader: &mut Reader) -> Result<(), ReadFault>
+    ensures same { λ _. ⌜ now (reader .exit) .bytes .now ≡ now (reader .entry) .bytes .now ⌝ }
+    ensures told { λ r. ⌜ endAt r (now (reader .exit) .at) ≡ blocksEnd (blocksFrom (now (reader .entry) .bytes .now) (suc (length (now (reader .entry) .bytes .now))) 0 (now (reader .entry) .at)) ⌝ }
+    ensures forth { λ r. ⌜ made r (λ _. now (reader .entry) .at ≤ now (reader .exit) .at) ⌝ }
+{
+    let mut count = 0usize;
+    'turns: loop {
+        let Some((at, command)) = reader.next(Context::BlockDue)? else {
+            return Err(ReadFault::Open(reader.bytes.len()));
+        };
+        let Command::Block(_) = command else {
+            return Err(ReadFault::NotAllowed(at));
+        };
+        if count >= 64 {
+            return Err(ReadFault::TooMany(at));
+        }
+        count += 1;
+        let Some((place, follower)) = reader.next(Context::AfterBlock)? else {
+            return Err(ReadFault::Open(reader.bytes.len()));
+        };
+        match follower {
+            Command::Point { .. } => {}
+            Command::EndTask => return Ok(()),
+            _ => return Err(ReadFault::NotAllowed(place)),
+        }
+    }
+}
+
+// The tasks from the reader's place on.
+fn read_tasks(reader: &mut Reader) -> Result<Heads, ReadFault>
+    ensures same { λ _. ⌜ now (reader .exit) .bytes .now ≡ now (reader .entry) .bytes .now ⌝ }
+    ensures told { λ r. ⌜ headsAt r (now (reader .exit) .at) ≡ taskHeads (tasksFrom (now (reader .entry) .bytes .now) (suc (length (now (reader .entry) .bytes .now))) [] (now (reader .entry) .at)) ⌝ }
+{
+    let mut heads = Heads::new();
+    'tasks: loop {
+        let Some((at, command)) = reader.next(Context::Tasks)? else {
+            return Ok(heads);
+        };
+        let Command::Task { code, .. } = command else {
+            return Err(ReadFault::NotAllowed(at));
+        };
+        if heads.contains(code) {
+            return Err(ReadFault::CodeUsed(at));
+        }
+        if heads.len() >= 32 {
+            return Err(ReadFault::TooMany(at));
+        }
+        read_blocks(reader)?;
+        heads.add(Head { code, at });
+    }
+}
+
+// Reads a listing: the first fault in it, or the heads of its routines and tasks.
+pub fn read(bytes: &[u8]) -> Result<Outline, ReadFault>
+    ensures { λ r. ⌜ told r ≡ outlineOf (listing (now (bytes .entry))) ⌝ }
+{
+    if bytes.len() > LONGEST {
+        return Err(ReadFault::TooLong);
+    }
+    let mut reader = Reader::new(bytes);
+    let routines = read_routines(&mut reader)?;
+    let tasks = read_tasks(&mut reader)?;
+    Ok(Outline { routines, tasks })
 }
