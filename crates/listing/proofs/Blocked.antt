@@ -53,9 +53,9 @@ no-follower (command.Point n m) p e x h i = absurd (h n m refl)
 no-follower command.EndTask p e x h i = absurd (i refl)
 no-follower command.Sheet p e x h i = refl
 
-end-more : (c t q : ℕ) (s : Result (Blocks × ℕ) ReadFault) → blocksEnd (then (more-blocks c t q) s) ≡ blocksEnd s
-end-more c t q (Ok b) = refl
-end-more c t q (Err f) = refl
+end-more : (at c t q : ℕ) (s : Result (Blocks × ℕ) ReadFault) → blocksEnd (then (more-blocks at c t q) s) ≡ blocksEnd s
+end-more at c t q (Ok b) = refl
+end-more at c t q (Err f) = refl
 
 -- so many blocks are behind a place, and the rest gives the whole
 pub record Blocking (bs : List ℕ) (count place : ℕ) (whole : Result ℕ ReadFault) : Type 0 where
@@ -85,11 +85,11 @@ module _ (bs : List ℕ) (count place : ℕ) (whole : Result ℕ ReadFault) (g :
     block-many h = block-now e ∙ ap blocksEnd (cond-true _ _ _ (le-leb _ _ h))
 
     module _ (h : count < 64) (next : ℕ) (is : next ≡ after BlockDue bs place) where
-      follower : {r : _} → answer AfterBlock bs next ≡ r → whole ≡ blocksEnd (onward bs (after-block n (blocksFrom bs (g .left) (count + 1)) (after AfterBlock bs next)) r)
+      follower : {r : _} → answer AfterBlock bs next ≡ r → whole ≡ blocksEnd (onward bs (after-block at n (blocksFrom bs (g .left) (count + 1)) (after AfterBlock bs next)) r)
       follower {r} i =
           block-now e ∙ ap blocksEnd (cond-false _ _ _ (lt-leb _ _ h))
-          ∙ ap (λ p. blocksEnd (onward bs (after-block n (blocksFrom bs (g .left) (count + 1)) (after AfterBlock bs p)) (answer AfterBlock bs p))) (sym is)
-          ∙ ap (λ x. blocksEnd (onward bs (after-block n (blocksFrom bs (g .left) (count + 1)) (after AfterBlock bs next)) x)) i
+          ∙ ap (λ p. blocksEnd (onward bs (after-block at n (blocksFrom bs (g .left) (count + 1)) (after AfterBlock bs p)) (answer AfterBlock bs p))) (sym is)
+          ∙ ap (λ x. blocksEnd (onward bs (after-block at n (blocksFrom bs (g .left) (count + 1)) (after AfterBlock bs next)) x)) i
 
       pub follower-open : answer AfterBlock bs next ≡ Ok None → whole ≡ Err (Open (length bs))
       follower-open i = follower i
@@ -102,7 +102,7 @@ module _ (bs : List ℕ) (count place : ℕ) (whole : Result ℕ ReadFault) (g :
         not-a-follower j k = follower i ∙ ap blocksEnd (no-follower c _ _ _ j k)
 
         pub task-end : c ≡ command.EndTask → whole ≡ Ok (after AfterBlock bs next)
-        task-end k = follower i ∙ ap (λ x. blocksEnd (after-block n (blocksFrom bs (g .left) (count + 1)) (after AfterBlock bs next) p x)) k
+        task-end k = follower i ∙ ap (λ x. blocksEnd (after-block at n (blocksFrom bs (g .left) (count + 1)) (after AfterBlock bs next) p x)) k
 
         pub point-then : (t m : ℕ) → c ≡ command.Point t m → (q : ℕ) → q ≡ after AfterBlock bs next → place < q → place < length bs → Blocking bs (count + 1) q whole
         point-then t m k q on forth inside =
@@ -110,6 +110,6 @@ module _ (bs : List ℕ) (count place : ℕ) (whole : Result ℕ ReadFault) (g :
             record {
               left = g .left - 1;
               enough = omega (arith, g .enough);
-              gives = follower i ∙ ap (λ x. blocksEnd (after-block n (blocksFrom bs (g .left) (count + 1)) (after AfterBlock bs next) p x)) k ∙ end-more n t m _
+              gives = follower i ∙ ap (λ x. blocksEnd (after-block at n (blocksFrom bs (g .left) (count + 1)) (after AfterBlock bs next) p x)) k ∙ end-more at n t m _
                   ∙ (λ j. blocksEnd (blocksFrom bs (some j) (count + 1) (sym on j)));
             }

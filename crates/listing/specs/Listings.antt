@@ -67,18 +67,18 @@ unfoldable pub routinesFrom : List ℕ → ℕ → List Head → ℕ → Result 
 routinesFrom bs zero seen place = Err (Open (length bs))
 routinesFrom bs (suc n) seen place = routine-turn bs seen (routinesFrom bs n) place (after Top bs place) (answer Top bs place)
 
-abbrev pub more-blocks : ℕ → ℕ → ℕ → Blocks × ℕ → Result (Blocks × ℕ) ReadFault
-more-blocks c t q rest = Ok (block c t q (rest .0), rest .1)
+abbrev pub more-blocks : ℕ → ℕ → ℕ → ℕ → Blocks × ℕ → Result (Blocks × ℕ) ReadFault
+more-blocks at c t q rest = Ok (block at c t q (rest .0), rest .1)
 
 -- after a block: a point and the next blocks, or the end of the task
-abbrev pub after-block : ℕ → (ℕ → Result (Blocks × ℕ) ReadFault) → ℕ → ℕ → Command → Result (Blocks × ℕ) ReadFault
-after-block c rest place at =
-    byCommand (λ _. Err (NotAllowed at)) (λ _ _ _. Err (NotAllowed at)) (λ _. Err (NotAllowed at)) (λ t q. then (more-blocks c t q) (rest place)) (Ok (final c, place)) (Err (NotAllowed at))
+abbrev pub after-block : ℕ → ℕ → (ℕ → Result (Blocks × ℕ) ReadFault) → ℕ → ℕ → Command → Result (Blocks × ℕ) ReadFault
+after-block was c rest place at =
+    byCommand (λ _. Err (NotAllowed at)) (λ _ _ _. Err (NotAllowed at)) (λ _. Err (NotAllowed at)) (λ t q. then (more-blocks was c t q) (rest place)) (Ok (final was c, place)) (Err (NotAllowed at))
 
 -- a block, of which there are at most 64, and what comes after it
 abbrev pub a-block : List ℕ → ℕ → (ℕ → Result (Blocks × ℕ) ReadFault) → ℕ → ℕ → Command → Result (Blocks × ℕ) ReadFault
 a-block bs count rest place at =
-    byCommand (λ _. Err (NotAllowed at)) (λ _ _ _. Err (NotAllowed at)) (λ c. cond (leb 64 count) (Err (TooMany at)) (onward bs (after-block c rest (after AfterBlock bs place)) (answer AfterBlock bs place))) (λ _ _. Err (NotAllowed at)) (Err (NotAllowed at)) (Err (NotAllowed at))
+    byCommand (λ _. Err (NotAllowed at)) (λ _ _ _. Err (NotAllowed at)) (λ c. cond (leb 64 count) (Err (TooMany at)) (onward bs (after-block at c rest (after AfterBlock bs place)) (answer AfterBlock bs place))) (λ _ _. Err (NotAllowed at)) (Err (NotAllowed at)) (Err (NotAllowed at))
 
 -- the blocks from a place on, after so many, and the place after the task
 unfoldable pub blocksFrom : List ℕ → ℕ → ℕ → ℕ → Result (Blocks × ℕ) ReadFault

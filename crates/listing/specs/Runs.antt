@@ -83,7 +83,7 @@ a-repeat k e = byLast (Err (NotAllowed (e .at))) (Err (NotAllowed (e .at))) (Ok 
 abbrev pub itemBy : (ℕ → ℕ → Result Ended ReadFault) → List ℕ → ℕ → Command → ℕ → Result Parsed ReadFault
 itemBy run bs at (Routine c) place = Err (NotAllowed at)
 itemBy run bs at (Work t) place = Ok (record { item = work t; end = place })
-itemBy run bs at (Call c) place = Ok (record { item = call c; end = place })
+itemBy run bs at (Call c) place = Ok (record { item = call at c; end = place })
 itemBy run bs at Either place = then an-either (armsBy (run at) bs (suc (length bs)) place)
 itemBy run bs at Or place = Err (NotAllowed at)
 itemBy run bs at EndEither place = Err (NotAllowed at)

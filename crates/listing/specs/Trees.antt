@@ -2,11 +2,11 @@
 use mathlib.Core.List.{List}
 use Prim.Native.Nat.{ℕ, _+_, _*_, max}
 
--- an item, a run of items, and the arms of an either
+-- an item, a run of items, and the arms of an either; a call has its offset and the code
 mutual
   pub data Item : Type 0 where
     work : ℕ → Item
-    call : ℕ → Item
+    call : ℕ → ℕ → Item
     either : Arms → Item
     repeat : ℕ → Run → Item
 
@@ -22,7 +22,7 @@ mutual
 abbrev mutual
   pub costItem : (ℕ → ℕ) → Item → ℕ
   costItem of (work t) = t
-  costItem of (call c) = of c
+  costItem of (call at c) = of c
   costItem of (either a) = costArms of a
   costItem of (repeat k r) = k * costRun of r
 
@@ -40,10 +40,10 @@ pub record Routine : Type 0 where
   pub at : ℕ
   pub body : Run
 
--- the blocks of a task, by their routines' codes, and the ticks and charge of the points between them
+-- the blocks of a task: a block's offset and its routine's code, then the ticks and the charge of the point after it
 pub data Blocks : Type 0 where
-  final : ℕ → Blocks
-  block : ℕ → ℕ → ℕ → Blocks → Blocks
+  final : ℕ → ℕ → Blocks
+  block : ℕ → ℕ → ℕ → ℕ → Blocks → Blocks
 
 pub record Task : Type 0 where
   pub code : ℕ
