@@ -4,3 +4,4 @@ pub mod Heads
 pub mod Trees
 pub mod Runs
 pub mod Listings
+pub mod Calls

@@ -1,6 +1,8 @@
 -- A listing as a tree, and what its runs cost. Assumes nothing.
-use mathlib.Core.List.{List}
+use mathlib.Core.List.{List, [], _∷_, _++_}
 use Prim.Native.Nat.{ℕ, _+_, _*_, max}
+use Rattle.listing.specs.declared.heads.Head.{Head}
+use Rattle.listing.specs.Heads.{head}
 
 -- an item, a run of items, and the arms of an either; a call has its offset and the code
 mutual
@@ -55,3 +57,24 @@ pub record Task : Type 0 where
 pub record Listing : Type 0 where
   pub routines : List Routine
   pub tasks : List Task
+
+-- the calls of a run, by code and offset
+abbrev mutual
+  pub callsItem : Item → List Head
+  callsItem (work t) = []
+  callsItem (call at c) = head c at ∷ []
+  callsItem (either a) = callsArms a
+  callsItem (repeat k r) = callsRun r
+
+  pub callsRun : Run → List Head
+  callsRun done = []
+  callsRun (next i r) = callsItem i ++ callsRun r
+
+  pub callsArms : Arms → List Head
+  callsArms (one r) = callsRun r
+  callsArms (more r a) = callsRun r ++ callsArms a
+
+-- the routines that blocks name, by code and offset
+abbrev pub blockHeads : Blocks → List Head
+blockHeads (final at c) = head c at ∷ []
+blockHeads (block at c t q b) = head c at ∷ blockHeads b

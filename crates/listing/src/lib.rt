@@ -1,4 +1,5 @@
 // Listings of routines and tasks: the command table, reading, worst costs and loading.
+pub mod calls;
 pub mod fault;
 pub mod heads;
 pub mod outline;
