@@ -5,3 +5,4 @@ pub mod Trees
 pub mod Runs
 pub mod Listings
 pub mod Calls
+pub mod Cycles

@@ -1,5 +1,6 @@
 // Listings of routines and tasks: the command table, reading, worst costs and loading.
 pub mod calls;
+pub mod cycles;
 pub mod fault;
 pub mod heads;
 pub mod outline;

@@ -2,8 +2,8 @@
 ghost use mathlib.Core.List.{List, [], _∷_, _++_};
 ghost use mathlib.Core.Path.{_≡_};
 ghost use Prim.Native.Nat.{ℕ, _+_, _<_, _≤_};
-ghost use lib.ListN.{length};
-ghost use Rattle.listing.specs.Heads.{held, used};
+ghost use lib.ListN.{length, getD};
+ghost use Rattle.listing.specs.Heads.{head, held, used};
 use super::Head;
 use super::Heads;
 
@@ -18,9 +18,18 @@ impl Heads {
     }
 
     pub fn len(&self) -> usize
-        ensures { λ r. ⌜ r ≡ length (held (now (self .entry))) ⌝ }
+        ensures is { λ r. ⌜ r ≡ length (held (now (self .entry))) ⌝ }
+        ensures few { λ r. ⌜ r ≤ 32 ⌝ }
     {
         self.count
+    }
+
+    // The one at an index.
+    pub(crate) fn get(&self, i: usize) -> Head
+        requires { ⌜ i < length (held (now self)) ⌝ }
+        ensures { λ r. ⌜ r ≡ getD (held (now (self .entry))) i (head 0 0) ⌝ }
+    {
+        self.heads[i]
     }
 
     // Is a code among them?

@@ -55,7 +55,7 @@ returns-then-len-ge32 c =
     let n = c .in-Continue-at .ensures tt in
     let bs = c .routines .inv .0 in
     let e = read-as _ _ _ _ _ _ (read-there _ _ (c .args .reader .now .bytes .now) _ _ _ _ (n .told) bs (c .in-Some .is)) (c .in-Routine .is) in
-    record { same = n .same ∙ bs; told = sym (routine-many _ _ _ _ (c .routines .inv .1) _ _ e (sym (c .if-contains .ensures tt)) (omega (arith, c .len .ensures))) }
+    record { same = n .same ∙ bs; told = sym (routine-many _ _ _ _ (c .routines .inv .1) _ _ e (sym (c .if-contains .ensures tt)) (omega (arith, c .len .ensures .is))) }
 
 pub returns-in-Break-ran : need.returns-in-Break-ran
 returns-in-Break-ran c =
@@ -66,7 +66,7 @@ returns-in-Break-ran c =
     let i = c .in-Break-ran .ensures tt in
     let on = n .moved ∙ ap (λ b. after Top b (c .routines .reader .at)) bs in
     rw (p .1, p .2)
-    (record { same = i .same ∙ n .same ∙ bs; told = sym (body-fault _ _ _ _ (c .routines .inv .1) _ _ e (sym (c .if-contains .ensures tt)) (omega (arith, c .len .ensures)) _ _ _ (told-there _ _ _ _ _ _ _ _ _ (n .same ∙ bs) on (i .told))) })
+    (record { same = i .same ∙ n .same ∙ bs; told = sym (body-fault _ _ _ _ (c .routines .inv .1) _ _ e (sym (c .if-contains .ensures tt)) (omega (arith, c .len .ensures .is)) _ _ _ (told-there _ _ _ _ _ _ _ _ _ (n .same ∙ bs) on (i .told))) })
 
 pub returns-in-rest-last : need.returns-in-rest-last
 returns-in-rest-last c =
@@ -75,7 +75,7 @@ returns-in-rest-last c =
     let e = read-as _ _ _ _ _ _ (read-there _ _ (c .args .reader .now .bytes .now) _ _ _ _ (n .told) bs (c .in-Some .is)) (c .in-Routine .is) in
     let i = c .in-Continue-ran .ensures tt in
     let on = n .moved ∙ ap (λ b. after Top b (c .routines .reader .at)) bs in
-    record { same = i .same ∙ n .same ∙ bs; told = sym (body-open _ _ _ _ (c .routines .inv .1) _ _ e (sym (c .if-contains .ensures tt)) (omega (arith, c .len .ensures)) _ _ _ (told-there _ _ _ _ _ _ _ _ _ (n .same ∙ bs) on (i .told)) (c .in-rest-last .not-EndRoutine)) }
+    record { same = i .same ∙ n .same ∙ bs; told = sym (body-open _ _ _ _ (c .routines .inv .1) _ _ e (sym (c .if-contains .ensures tt)) (omega (arith, c .len .ensures .is)) _ _ _ (told-there _ _ _ _ _ _ _ _ _ (n .same ∙ bs) on (i .told)) (c .in-rest-last .not-EndRoutine)) }
 
 pub routines-again : need.routines-again
 routines-again c =
@@ -88,5 +88,5 @@ routines-again c =
     let forth : (c .routines .reader .at < c .next .last .self .at) × (c .next .last .self .at ≤ length (c .routines .reader .bytes .now)) = search needs in (
       i .same ∙ n .same ∙ bs,
       gathered-as _ _ _ _ _ (sym (c .add .ensures))
-          (body-closed _ _ _ _ (c .routines .inv .1) _ _ e (sym (c .if-contains .ensures tt)) (omega (arith, c .len .ensures)) _ _ _ (told-there _ _ _ _ _ _ _ _ _ (n .same ∙ bs) on (i .told)) (c .in-EndRoutine .is) (omega (arith, i .within)) (omega arith)),
+          (body-closed _ _ _ _ (c .routines .inv .1) _ _ e (sym (c .if-contains .ensures tt)) (omega (arith, c .len .ensures .is)) _ _ _ (told-there _ _ _ _ _ _ _ _ _ (n .same ∙ bs) on (i .told)) (c .in-EndRoutine .is) (omega (arith, i .within)) (omega arith)),
     )

@@ -54,7 +54,7 @@ returns-then-len-ge32 c =
     let n = c .in-Continue-at .ensures tt in
     let bs = c .tasks .inv .0 in
     let e = read-as _ _ _ _ _ _ (read-there _ _ (c .args .reader .now .bytes .now) _ _ _ _ (n .told) bs (c .in-Some .is)) (c .in-Task .is) in
-    record { same = n .same ∙ bs; told = sym (task-many _ _ _ _ (c .tasks .inv .1) _ _ _ _ e (sym (c .if-contains .ensures tt)) (omega (arith, c .len .ensures))) }
+    record { same = n .same ∙ bs; told = sym (task-many _ _ _ _ (c .tasks .inv .1) _ _ _ _ e (sym (c .if-contains .ensures tt)) (omega (arith, c .len .ensures .is))) }
 
 pub returns-in-Break-read-blocks : need.returns-in-Break-read-blocks
 returns-in-Break-read-blocks c =
@@ -65,7 +65,7 @@ returns-in-Break-read-blocks c =
     let i = c .in-Break-read-blocks .ensures tt in
     let on = n .moved ∙ ap (λ b. after Tasks b (c .tasks .reader .at)) bs in
     rw (p .1, p .2)
-    (record { same = i .same ∙ n .same ∙ bs; told = sym (task-blocks-fault _ _ _ _ (c .tasks .inv .1) _ _ _ _ e (sym (c .if-contains .ensures tt)) (omega (arith, c .len .ensures)) _ (blocks-there _ _ _ _ _ (n .same ∙ bs) on (i .told))) })
+    (record { same = i .same ∙ n .same ∙ bs; told = sym (task-blocks-fault _ _ _ _ (c .tasks .inv .1) _ _ _ _ e (sym (c .if-contains .ensures tt)) (omega (arith, c .len .ensures .is)) _ (blocks-there _ _ _ _ _ (n .same ∙ bs) on (i .told))) })
 
 pub tasks-again : need.tasks-again
 tasks-again c =
@@ -78,5 +78,5 @@ tasks-again c =
     let forth : (c .tasks .reader .at < c .next .last .self .at) × (c .next .last .self .at ≤ length (c .tasks .reader .bytes .now)) = search needs in (
       i .same ∙ n .same ∙ bs,
       tasking-as _ _ _ _ _ (sym (c .add .ensures))
-          (task-done _ _ _ _ (c .tasks .inv .1) _ _ _ _ e (sym (c .if-contains .ensures tt)) (omega (arith, c .len .ensures)) _ (blocks-there _ _ _ _ _ (n .same ∙ bs) on (i .told)) (omega (arith, i .forth)) (omega arith)),
+          (task-done _ _ _ _ (c .tasks .inv .1) _ _ _ _ e (sym (c .if-contains .ensures tt)) (omega (arith, c .len .ensures .is)) _ (blocks-there _ _ _ _ _ (n .same ∙ bs) on (i .told)) (omega (arith, i .forth)) (omega arith)),
     )
