@@ -6,3 +6,4 @@ pub mod Runs
 pub mod Listings
 pub mod Calls
 pub mod Cycles
+pub mod Steps

@@ -1,4 +1,5 @@
 // Listings of routines and tasks: the command table, reading, worst costs and loading.
+pub mod blocks;
 pub mod calls;
 pub mod cycles;
 pub mod fault;

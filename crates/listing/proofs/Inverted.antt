@@ -1,0 +1,64 @@
+-- What a command that is read says of the bytes. Assumes nothing.
+use mathlib.Core.Path.{_≡_, refl, sym, ap, subst, _∙_}
+use mathlib.Core.List.{List, [], _∷_}
+use mathlib.Core.Logic.{⊎-elim}
+use mathlib.Core.Bool.{Bool, true, false, cond}
+use Prim.Native.Nat.{ℕ, zero, suc, _+_, _<_, _≤_}
+use native.Mathlib.Omega.{arith}
+use lib.Dec.{ltb}
+use lib.ListN.{length, drop}
+use Rattle.std.proofs.shelf.Tests.{cases-bool, cond-true, cond-false, ltb-false}
+use Rattle.std.specs.declared.option.Option.{Option}
+use Rattle.std.specs.declared.option.Option.the-variants.{Some, None}
+use Rattle.std.specs.declared.result.Result.the-variants.{Ok, Err}
+use Rattle.listing.specs.declared.table.Row.{Row}
+use Rattle.listing.specs.declared.table.Numbers.{Numbers}
+use Rattle.listing.specs.declared.table.Context.{Context}
+use Rattle.listing.specs.declared.table.Command.{Command}
+use Rattle.listing.specs.Commands.{rowIn, widthOf, numbersOf, within, commandOf, Front, none, unknown, short, range, a, byRow, byNumbers, decode, answered, moved, answer, after}
+
+pub record Written (context : Context) (bs : List ℕ) (c : Command) (n : ℕ) : Type 0 where
+  pub byte : ℕ
+  pub rest : List ℕ
+  pub row : Row
+  pub bytes-are : bs ≡ byte ∷ rest
+  pub row-is : rowIn context byte ≡ Some row
+  pub enough : widthOf row ≤ length rest
+  pub fits : within row (numbersOf row rest) ≡ true
+  pub command-is : commandOf (row .kind) (numbersOf row rest) ≡ c
+  pub size-is : 1 + widthOf row ≡ n
+
+by-numbers : (context : Context) (byte : ℕ) (rest : List ℕ) (row : Row) (c : Command) (n : ℕ) → rowIn context byte ≡ Some row → widthOf row ≤ length rest → byNumbers row (numbersOf row rest) ≡ a c n → Written context (byte ∷ rest) c n
+by-numbers context byte rest row c n is enough e =
+    ⊎-elim
+    (λ good.
+    let f : a (commandOf (row .kind) (numbersOf row rest)) (1 + widthOf row) ≡ a c n = sym (cond-true _ _ _ good) ∙ e in
+    record { byte = byte; rest = rest; row = row; bytes-are = refl; row-is = is; enough = enough; fits = good; command-is = cc; size-is = cc })
+    (λ bad. let f : range ≡ a c n = sym (cond-false _ _ _ bad) ∙ e in let z : _≡_ {A = ℕ} 0 1 = cc in absurd (omega arith))
+    (cases-bool (within row (numbersOf row rest)))
+
+by-row : (context : Context) (byte : ℕ) (rest : List ℕ) (o : Option Row) (c : Command) (n : ℕ) → rowIn context byte ≡ o → byRow o rest ≡ a c n → Written context (byte ∷ rest) c n
+by-row context byte rest None c n is e = let z : _≡_ {A = ℕ} 0 1 = cc in absurd (omega arith)
+by-row context byte rest (Some row) c n is e =
+    ⊎-elim
+    (λ cut. let f : short ≡ a c n = sym (cond-true _ _ _ cut) ∙ e in let z : _≡_ {A = ℕ} 0 1 = cc in absurd (omega arith))
+    (λ whole. by-numbers context byte rest row c n is (ltb-false _ _ whole) (sym (cond-false _ _ _ whole) ∙ e))
+    (cases-bool (ltb (length rest) (widthOf row)))
+
+pub written : (context : Context) (bs : List ℕ) (c : Command) (n : ℕ) → decode context bs ≡ a c n → Written context bs c n
+written context [] c n e = let z : _≡_ {A = ℕ} 0 1 = cc in absurd (omega arith)
+written context (byte ∷ rest) c n e = by-row context byte rest (rowIn context byte) c n refl e
+
+front-by : (f : Front) (p at : ℕ) (c : Command) → answered p f ≡ Ok (Some (at, c)) → (n : ℕ) × (f ≡ a c n) × (moved p f ≡ p + n)
+front-by none p at c e = let z : _≡_ {A = ℕ} 0 1 = cc in absurd (omega arith)
+front-by unknown p at c e = let z : _≡_ {A = ℕ} 0 1 = cc in absurd (omega arith)
+front-by short p at c e = let z : _≡_ {A = ℕ} 0 1 = cc in absurd (omega arith)
+front-by range p at c e = let z : _≡_ {A = ℕ} 0 1 = cc in absurd (omega arith)
+front-by (a k n) p at c e = let both : (p, k) ≡ (at, c) = cc in (n, ap (λ x. a x n) (ap (λ (x : ℕ × Command). x .1) both), refl)
+
+-- a command that is read at a place, in the bytes from there on, and the place after it
+pub read-written : (context : Context) (bs : List ℕ) (p at : ℕ) (c : Command) → answer context bs p ≡ Ok (Some (at, c)) → (n : ℕ) × Written context (drop p bs) c n × (after context bs p ≡ p + n)
+unfolding answer after
+read-written context bs p at c e =
+    let f = front-by (decode context (drop p bs)) p at c e in
+    (f .0, written context (drop p bs) c (f .0) (f .1), f .2)

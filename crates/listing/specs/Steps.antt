@@ -1,0 +1,38 @@
+-- The steps through a task's blocks. Assumes nothing.
+use mathlib.Core.List.{List, [], _∷_}
+use mathlib.Core.Bool.{Bool, true, false, cond}
+use mathlib.Core.Path.{_≡_}
+use Prim.Native.Nat.{ℕ, suc}
+use lib.ListN.{length, getD}
+use Rattle.std.specs.declared.option.Option.{Option}
+use Rattle.std.specs.declared.option.Option.the-variants.{Some, None}
+use Rattle.std.specs.declared.result.Result.{Result}
+use Rattle.std.specs.declared.result.Result.the-variants.{Ok, Err}
+use Rattle.listing.specs.declared.fault.ReadFault.{ReadFault}
+use Rattle.listing.specs.declared.table.Command.{Command}
+use Rattle.listing.specs.declared.table.Context.the-variants.{Tasks}
+use Rattle.listing.specs.declared.heads.Head.{Head}
+use Rattle.listing.specs.Commands.{answer, after}
+use Rattle.listing.specs.Heads.{head, used}
+use Rattle.listing.specs.Trees.{Blocks, blockHeads}
+use Rattle.listing.specs.Listings.{byCommand, blocksFrom}
+
+-- the block that was read, and the point
+abbrev pub blockOf : Result (Option (ℕ × Command)) ReadFault → Option Head
+blockOf (Ok None) = None
+blockOf (Ok (Some c)) = byCommand (λ _. None) (λ _ _ _. None) (λ n. Some (head n (c .0))) (λ _ _. None) None None (c .1)
+blockOf (Err f) = None
+
+abbrev pub pointOf : Result (Option (ℕ × Command)) ReadFault → Option (ℕ × ℕ)
+pointOf (Ok None) = None
+pointOf (Ok (Some c)) = byCommand (λ _. None) (λ _ _ _. None) (λ _. None) (λ t q. Some (t, q)) None None (c .1)
+pointOf (Err f) = None
+
+-- the first of some heads whose code is marked
+abbrev pub firstMarked : List Bool → List Head → Option Head
+firstMarked marks [] = None
+firstMarked marks (h ∷ hs) = cond (getD marks (h .code) false) (Some h) (firstMarked marks hs)
+
+-- the blocks of the task at an offset, where they are read
+abbrev pub blocksAt : List ℕ → ℕ → Result (Blocks × ℕ) ReadFault
+blocksAt bs at = blocksFrom bs (suc (length bs)) 0 (after Tasks bs at)

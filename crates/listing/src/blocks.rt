@@ -1,0 +1,73 @@
+// Walks through a task's blocks.
+ghost use mathlib.Core.Path.{_≡_};
+ghost use Prim.Native.Nat.{ℕ, _+_, _<_, _≤_};
+ghost use lib.ListN.{length, getD};
+ghost use Rattle.std.specs.Options.{Cases as BySome};
+ghost use Rattle.std.specs.declared.result.Result.the-variants.{Ok};
+ghost use Rattle.listing.specs.declared.table.Context.the-variants.{BlockDue, AfterBlock};
+ghost use Rattle.listing.specs.Commands.{answer, after};
+ghost use Rattle.listing.specs.Trees.{Blocks, blockHeads};
+ghost use Rattle.listing.specs.Steps.{blockOf, pointOf, firstMarked, blocksAt};
+use crate::heads::Head;
+use crate::reader::Reader;
+use crate::table::Command;
+use crate::table::Context;
+
+impl Reader<'_> {
+    // The block at the place, if one is there.
+    pub(crate) fn block(&mut self) -> Option<Head>
+        ensures same { λ _. ⌜ now (self .exit) .bytes .now ≡ now (self .entry) .bytes .now ⌝ }
+        ensures moved { λ _. ⌜ now (self .exit) .at ≡ after BlockDue (now (self .entry) .bytes .now) (now (self .entry) .at) ⌝ }
+        ensures told { λ r. ⌜ r ≡ blockOf (answer BlockDue (now (self .entry) .bytes .now) (now (self .entry) .at)) ⌝ }
+        ensures forth { λ r. ⌜ BySome r (Unit {0}) (λ h. (h .code < 256) × (now (self .entry) .at < now (self .exit) .at) × (now (self .exit) .at ≤ length (now (self .entry) .bytes .now))) ⌝ }
+    {
+        let Ok(read) = self.next(Context::BlockDue) else {
+            return None;
+        };
+        let Some((at, command)) = read else {
+            return None;
+        };
+        match command {
+            Command::Block(code) => Some(Head { code, at }),
+            _ => None,
+        }
+    }
+
+    // The point at the place, if one is there: its ticks and its charge.
+    pub(crate) fn point(&mut self) -> Option<(u32, u16)>
+        ensures same { λ _. ⌜ now (self .exit) .bytes .now ≡ now (self .entry) .bytes .now ⌝ }
+        ensures moved { λ _. ⌜ now (self .exit) .at ≡ after AfterBlock (now (self .entry) .bytes .now) (now (self .entry) .at) ⌝ }
+        ensures told { λ r. ⌜ r ≡ pointOf (answer AfterBlock (now (self .entry) .bytes .now) (now (self .entry) .at)) ⌝ }
+        ensures forth { λ r. ⌜ BySome r (Unit {0}) (λ _. (now (self .entry) .at < now (self .exit) .at) × (now (self .exit) .at ≤ length (now (self .entry) .bytes .now))) ⌝ }
+    {
+        let Ok(read) = self.next(Context::AfterBlock) else {
+            return None;
+        };
+        let Some((_, command)) = read else {
+            return None;
+        };
+        match command {
+            Command::Point { ticks, charge } => Some((ticks, charge)),
+            _ => None,
+        }
+    }
+}
+
+// The first block of the task at an offset whose routine's code is marked.
+pub(crate) fn first_block(bytes: &[u8], at: usize, marks: &[bool; 256]) -> Option<Head>
+    ensures { λ r. ⌜ ((b : Blocks) (q : ℕ) → blocksAt (now (bytes .entry)) at ≡ Ok (b, q) → r ≡ firstMarked (now (marks .entry)) (blockHeads b)) ⌝ }
+{
+    let mut reader = Reader { bytes, at };
+    let _ = reader.next(Context::Tasks);
+    'steps: loop {
+        let Some(head) = reader.block() else {
+            return None;
+        };
+        if marks[head.code as usize] {
+            return Some(head);
+        }
+        let Some(_) = reader.point() else {
+            return None;
+        };
+    }
+}
