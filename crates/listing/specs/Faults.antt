@@ -1,5 +1,9 @@
 -- The numbers of refusals and the places that they tell. Assumes nothing.
 use Prim.Native.Nat.{ℕ}
+use Rattle.std.specs.declared.option.Option.{Option}
+use Rattle.std.specs.declared.option.Option.the-variants.{Some, None}
+use Rattle.listing.specs.declared.fault.CostFault.{CostFault}
+use Rattle.listing.specs.declared.fault.CostFault.the-variants.{Read, Unknown, Cycle, TooDear}
 use Rattle.listing.specs.declared.fault.ReadFault.{ReadFault}
 use Rattle.listing.specs.declared.fault.ReadFault.the-variants.{TooLong, NotAllowed, Short, Open, OutOfRange, CodeUsed, TooMany}
 
@@ -20,3 +24,22 @@ readPlace (Open at) = at
 readPlace (OutOfRange at) = at
 readPlace (CodeUsed at) = at
 readPlace (TooMany at) = at
+
+abbrev pub costNumber : CostFault → ℕ
+costNumber (Read f) = readNumber f
+costNumber (Unknown at c) = 7
+costNumber (Cycle at c) = 8
+costNumber (TooDear at c) = 9
+
+abbrev pub costPlace : CostFault → ℕ
+costPlace (Read f) = readPlace f
+costPlace (Unknown at c) = at
+costPlace (Cycle at c) = at
+costPlace (TooDear at c) = at
+
+-- the code not found, or the routine's
+abbrev pub costCode : CostFault → Option ℕ
+costCode (Read f) = None
+costCode (Unknown at c) = Some c
+costCode (Cycle at c) = Some c
+costCode (TooDear at c) = Some c

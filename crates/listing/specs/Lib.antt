@@ -7,3 +7,4 @@ pub mod Listings
 pub mod Calls
 pub mod Cycles
 pub mod Steps
+pub mod Costing

@@ -1,6 +1,7 @@
-// What reading refuses, each case with the place that is told.
+// What reading and costing refuse, each case with the place that is told.
 ghost use mathlib.Core.Path.{_≡_};
-ghost use Rattle.listing.specs.Faults.{readNumber, readPlace};
+ghost use Rattle.listing.specs.declared.fault.CostFault.the-variants.{Read};
+ghost use Rattle.listing.specs.Faults.{readNumber, readPlace, costNumber, costPlace, costCode};
 
 #[derive(Clone, Copy, Debug, PartialEq)]
 pub enum ReadFault {
@@ -46,6 +47,61 @@ impl ReadFault {
             ReadFault::OutOfRange(at) => at,
             ReadFault::CodeUsed(at) => at,
             ReadFault::TooMany(at) => at,
+        }
+    }
+}
+
+#[derive(Clone, Copy, Debug, PartialEq)]
+pub enum CostFault {
+    Read(ReadFault),
+    // A call or a block names a code that no routine has.
+    Unknown { at: usize, code: u8 },
+    // A routine calls itself, at once or through others.
+    Cycle { at: usize, routine: u8 },
+    // A routine costs more than 1,000,000 ticks.
+    TooDear { at: usize, routine: u8 },
+}
+
+pub impl From<ReadFault> for CostFault as CostFromRead {
+    ghost converts = { λ e r. r ≡ Read e };
+
+    fn from(e: ReadFault) -> CostFault {
+        CostFault::Read(e)
+    }
+}
+
+impl CostFault {
+    pub fn number(self) -> u8
+        ensures { λ r. ⌜ r ≡ costNumber self ⌝ }
+    {
+        match self {
+            CostFault::Read(fault) => fault.number(),
+            CostFault::Unknown { .. } => 7,
+            CostFault::Cycle { .. } => 8,
+            CostFault::TooDear { .. } => 9,
+        }
+    }
+
+    pub fn place(self) -> usize
+        ensures { λ r. ⌜ r ≡ costPlace self ⌝ }
+    {
+        match self {
+            CostFault::Read(fault) => fault.place(),
+            CostFault::Unknown { at, .. } => at,
+            CostFault::Cycle { at, .. } => at,
+            CostFault::TooDear { at, .. } => at,
+        }
+    }
+
+    // The code that is told: the one not found, or the routine's.
+    pub fn code(self) -> Option<u8>
+        ensures { λ r. ⌜ r ≡ costCode self ⌝ }
+    {
+        match self {
+            CostFault::Read(_) => None,
+            CostFault::Unknown { code, .. } => Some(code),
+            CostFault::Cycle { routine, .. } => Some(routine),
+            CostFault::TooDear { routine, .. } => Some(routine),
         }
     }
 }
