@@ -24,24 +24,10 @@ use Rattle.listing.specs.Heads.{head, used}
 use Rattle.listing.specs.Trees.{Run, Routine, Blocks, Task, Listing}
 use Rattle.listing.specs.Runs.{Ended, then, byLast, runAt}
 use Rattle.listing.specs.Listings.{byCommand, admit, closed, more-routines, routine-turn, routinesFrom, more-tasks, task-turn, tasksFrom, blocksFrom, listing, tasks-then}
-use Rattle.listing.specs.Steps.{blocksAt}
+use Rattle.listing.specs.Bodies.{Body-read, Task-read}
 use Rattle.listing.proofs.Decoded.{here}
 use Rattle.listing.proofs.Spelled.{went}
 use Rattle.listing.proofs.Stepped.{refused}
-
--- a routine's command and its body are read where its offset says
-pub record Body-read (bs : List ℕ) (r : Routine) : Type 0 where
-  pub ended : Ended
-  pub command-is : answer Top bs (r .at) ≡ Ok (Some (r .at, command.Routine (r .code)))
-  pub run-is : runAt 9 bs (r .at) (after Top bs (r .at)) ≡ Ok ended
-  pub body-is : ended .run ≡ r .body
-  pub last-is : ended .last ≡ command.EndRoutine
-
--- a task's command and its blocks are read where its offset says
-pub record Task-read (bs : List ℕ) (t : Task) : Type 0 where
-  pub end : ℕ
-  pub command-is : answer Tasks bs (t .at) ≡ Ok (Some (t .at, command.Task (t .code) (t .period) (t .deadline)))
-  pub blocks-are : blocksAt bs (t .at) ≡ Ok (t .blocks, end)
 
 -- what went on past the tests of a code
 admitted : {X : Type 0} (c at : ℕ) (seen : List Head) (more : Result X ReadFault) (x : X) → admit c at seen more ≡ Ok x → more ≡ Ok x

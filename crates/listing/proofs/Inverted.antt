@@ -15,7 +15,11 @@ use Rattle.listing.specs.declared.table.Row.{Row}
 use Rattle.listing.specs.declared.table.Numbers.{Numbers}
 use Rattle.listing.specs.declared.table.Context.{Context}
 use Rattle.listing.specs.declared.table.Command.{Command}
-use Rattle.listing.specs.Commands.{rowIn, widthOf, numbersOf, within, commandOf, Front, none, unknown, short, range, a, byRow, byNumbers, decode, answered, moved, answer, after}
+use Rattle.listing.specs.declared.table.Command.the-variants as command
+use Rattle.listing.specs.declared.table.Kind.{Kind}
+use Rattle.listing.specs.declared.table.Kind.the-variants as kind
+use Rattle.listing.specs.Commands.{rowIn, widthOf, numbersOf, within, commandOf, top, Front, none, unknown, short, range, a, byRow, byNumbers, decode, answered, moved, answer, after}
+use Rattle.listing.proofs.Rows.{small}
 
 pub record Written (context : Context) (bs : List ℕ) (c : Command) (n : ℕ) : Type 0 where
   pub byte : ℕ
@@ -62,3 +66,48 @@ unfolding answer after
 read-written context bs p at c e =
     let f = front-by (decode context (drop p bs)) p at c e in
     (f .0, written context (drop p bs) c (f .0) (f .1), f .2)
+
+-- codes are bytes
+routine-kind : (k : Kind) (n : Numbers) (c : ℕ) → commandOf k n ≡ command.Routine c → n .first ≤ top k → c < 256
+routine-kind kind.Routine n c e h = let same : n .first ≡ c = cc in omega arith
+routine-kind kind.Work n c e h = let z : _≡_ {A = ℕ} 0 1 = cc in absurd (omega arith)
+routine-kind kind.Call n c e h = let z : _≡_ {A = ℕ} 0 1 = cc in absurd (omega arith)
+routine-kind kind.Either n c e h = let z : _≡_ {A = ℕ} 0 1 = cc in absurd (omega arith)
+routine-kind kind.Or n c e h = let z : _≡_ {A = ℕ} 0 1 = cc in absurd (omega arith)
+routine-kind kind.EndEither n c e h = let z : _≡_ {A = ℕ} 0 1 = cc in absurd (omega arith)
+routine-kind kind.Repeat n c e h = let z : _≡_ {A = ℕ} 0 1 = cc in absurd (omega arith)
+routine-kind kind.EndRepeat n c e h = let z : _≡_ {A = ℕ} 0 1 = cc in absurd (omega arith)
+routine-kind kind.EndRoutine n c e h = let z : _≡_ {A = ℕ} 0 1 = cc in absurd (omega arith)
+routine-kind kind.Task n c e h = let z : _≡_ {A = ℕ} 0 1 = cc in absurd (omega arith)
+routine-kind kind.Block n c e h = let z : _≡_ {A = ℕ} 0 1 = cc in absurd (omega arith)
+routine-kind kind.Point n c e h = let z : _≡_ {A = ℕ} 0 1 = cc in absurd (omega arith)
+routine-kind kind.EndTask n c e h = let z : _≡_ {A = ℕ} 0 1 = cc in absurd (omega arith)
+routine-kind kind.Sheet n c e h = let z : _≡_ {A = ℕ} 0 1 = cc in absurd (omega arith)
+
+pub small-routine : (context : Context) (bs : List ℕ) (p at c : ℕ) → answer context bs p ≡ Ok (Some (at, command.Routine c)) → c < 256
+small-routine context bs p at c e =
+    let w = read-written context bs p at (command.Routine c) e in
+    let x : Written context (drop p bs) (command.Routine c) (w .0) = w .1 in
+    routine-kind (x .row .kind) (numbersOf (x .row) (x .rest)) c (x .command-is) (small context (x .byte) (x .row) (x .row-is) (numbersOf (x .row) (x .rest)) (x .fits) .0)
+
+block-kind : (k : Kind) (n : Numbers) (c : ℕ) → commandOf k n ≡ command.Block c → n .first ≤ top k → c < 256
+block-kind kind.Routine n c e h = let z : _≡_ {A = ℕ} 0 1 = cc in absurd (omega arith)
+block-kind kind.Work n c e h = let z : _≡_ {A = ℕ} 0 1 = cc in absurd (omega arith)
+block-kind kind.Call n c e h = let z : _≡_ {A = ℕ} 0 1 = cc in absurd (omega arith)
+block-kind kind.Either n c e h = let z : _≡_ {A = ℕ} 0 1 = cc in absurd (omega arith)
+block-kind kind.Or n c e h = let z : _≡_ {A = ℕ} 0 1 = cc in absurd (omega arith)
+block-kind kind.EndEither n c e h = let z : _≡_ {A = ℕ} 0 1 = cc in absurd (omega arith)
+block-kind kind.Repeat n c e h = let z : _≡_ {A = ℕ} 0 1 = cc in absurd (omega arith)
+block-kind kind.EndRepeat n c e h = let z : _≡_ {A = ℕ} 0 1 = cc in absurd (omega arith)
+block-kind kind.EndRoutine n c e h = let z : _≡_ {A = ℕ} 0 1 = cc in absurd (omega arith)
+block-kind kind.Task n c e h = let z : _≡_ {A = ℕ} 0 1 = cc in absurd (omega arith)
+block-kind kind.Block n c e h = let same : n .first ≡ c = cc in omega arith
+block-kind kind.Point n c e h = let z : _≡_ {A = ℕ} 0 1 = cc in absurd (omega arith)
+block-kind kind.EndTask n c e h = let z : _≡_ {A = ℕ} 0 1 = cc in absurd (omega arith)
+block-kind kind.Sheet n c e h = let z : _≡_ {A = ℕ} 0 1 = cc in absurd (omega arith)
+
+pub small-block : (context : Context) (bs : List ℕ) (p at c : ℕ) → answer context bs p ≡ Ok (Some (at, command.Block c)) → c < 256
+small-block context bs p at c e =
+    let w = read-written context bs p at (command.Block c) e in
+    let x : Written context (drop p bs) (command.Block c) (w .0) = w .1 in
+    block-kind (x .row .kind) (numbersOf (x .row) (x .rest)) c (x .command-is) (small context (x .byte) (x .row) (x .row-is) (numbersOf (x .row) (x .rest)) (x .fits) .0)

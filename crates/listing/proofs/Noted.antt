@@ -89,6 +89,7 @@ module _ (known whole : List Head) (bs : List ℕ) (r : Calls) (place : ℕ) (g 
   all-noted : callsFrom bs (suc (g .left)) place ≡ [] → CallsTold known whole r
   all-noted e =
       record {
+        wide = g .long;
         marks = λ c h. sym (or-false (getD (r .marks) c false)) ∙ ap (λ hs. getD (r .marks) c false || used c hs) (sym e) ∙ g .marks-are c h;
         unknown = sym (orElse-none (r .unknown)) ∙ ap (λ hs. orElse (r .unknown) (firstUnknown known hs)) (sym e) ∙ g .unknown-is;
       }

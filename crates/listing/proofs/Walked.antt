@@ -18,7 +18,7 @@ use Rattle.listing.specs.Runs.{Ended, runAt}
 use Rattle.listing.specs.Calls.{byCall, calls-turn, callsFrom, callsAt}
 use Rattle.listing.proofs.Inverted.{Written, read-written}
 use Rattle.listing.proofs.Spelled.{Cmd, ReadsItem, ReadsRun, ReadsArms, Reads, run-reads}
-use Rattle.listing.proofs.Bodies.{Body-read}
+use Rattle.listing.specs.Bodies.{Body-read}
 
 -- a command takes the walk on
 cmd-on : (bs : List ℕ) (p : ℕ) (c : Command) (q : ℕ) → Cmd bs p c q → (p < q) × (p < length bs)

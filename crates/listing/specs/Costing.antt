@@ -18,7 +18,7 @@ use Rattle.listing.specs.Heads.{head, held, used}
 use Rattle.listing.specs.Trees.{Run, done, Routine, Task, Listing, costRun, callsRun, blockHeads}
 use Rattle.listing.specs.Listings.{listing, routineHead, taskHead}
 use Rattle.listing.specs.Calls.{firstUnknown, orElse, callsAt}
-use Rattle.listing.specs.Cycles.{Table, entry, closed, codeAt}
+use Rattle.listing.specs.Cycles.{Table, entry, closed, codeAt, Tabled}
 
 -- the calls of each routine, and the blocks of each task
 abbrev pub callLists : List Routine → List (List Head)
@@ -79,3 +79,12 @@ judgedAfter (Err f) = Err (Read f)
 -- the listing that bytes write, with every routine's cost in range, or the fault
 unfoldable pub costing : List ℕ → Result Listing CostFault
 costing bs = judgedAfter (listing bs)
+
+-- the calls that are met in each routine
+abbrev pub callsIn : List ℕ → List Head → List (List Head)
+callsIn bs = map (λ (h : Head). callsAt bs (h .at))
+
+-- what the walks through all routines tell
+abbrev pub TableTold : List Head → List (List Head) → Result (List (List Bool)) Head → Type 0
+TableTold known lists (Ok rows) = Tabled rows (tableOf lists) × (unknownIn known lists ≡ None)
+TableTold known lists (Err h) = unknownIn known lists ≡ Some h

@@ -7,4 +7,5 @@ pub mod Listings
 pub mod Calls
 pub mod Cycles
 pub mod Steps
+pub mod Bodies
 pub mod Costing

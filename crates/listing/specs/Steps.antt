@@ -14,8 +14,8 @@ use Rattle.listing.specs.declared.table.Context.the-variants.{Tasks}
 use Rattle.listing.specs.declared.heads.Head.{Head}
 use Rattle.listing.specs.Commands.{answer, after}
 use Rattle.listing.specs.Heads.{head, used}
-use Rattle.listing.specs.Trees.{Blocks, blockHeads}
-use Rattle.listing.specs.Listings.{byCommand, blocksFrom}
+use Rattle.listing.specs.Trees.{Blocks, Task, blockHeads}
+use Rattle.listing.specs.Listings.{byCommand, blocksFrom, taskHead}
 
 -- the block that was read, and the point
 abbrev pub blockOf : Result (Option (ℕ × Command)) ReadFault → Option Head
@@ -36,3 +36,12 @@ firstMarked marks (h ∷ hs) = cond (getD marks (h .code) false) (Some h) (first
 -- the blocks of the task at an offset, where they are read
 abbrev pub blocksAt : List ℕ → ℕ → Result (Blocks × ℕ) ReadFault
 blocksAt bs at = blocksFrom bs (suc (length bs)) 0 (after Tasks bs at)
+
+abbrev pub orNext : Head → Option Head → Option (Head × Head) → Option (Head × Head)
+orNext t (Some h) o = Some (t, h)
+orNext t None o = o
+
+-- the first block of some tasks whose routine's code is marked, with its task
+abbrev pub markedIn : List Bool → List Task → Option (Head × Head)
+markedIn marks [] = None
+markedIn marks (t ∷ ts) = orNext (taskHead t) (firstMarked marks (blockHeads (t .blocks))) (markedIn marks ts)

@@ -6,9 +6,17 @@ ghost use Rattle.std.specs.Options.{Cases as BySome};
 ghost use Rattle.std.specs.declared.result.Result.the-variants.{Ok};
 ghost use Rattle.listing.specs.declared.table.Context.the-variants.{BlockDue, AfterBlock};
 ghost use Rattle.listing.specs.Commands.{answer, after};
-ghost use Rattle.listing.specs.Trees.{Blocks, blockHeads};
-ghost use Rattle.listing.specs.Steps.{blockOf, pointOf, firstMarked, blocksAt};
+ghost use mathlib.Core.Bool.{not};
+ghost use mathlib.Core.List.{List, map};
+ghost use Rattle.std.specs.shelf.Lists.{All};
+ghost use Rattle.listing.specs.Bodies.{Task-read};
+ghost use Rattle.listing.specs.Cycles.{Row-says};
+ghost use Rattle.listing.specs.Heads.{held, used};
+ghost use Rattle.listing.specs.Listings.{taskHead};
+ghost use Rattle.listing.specs.Trees.{Blocks, Task, blockHeads};
+ghost use Rattle.listing.specs.Steps.{blockOf, pointOf, firstMarked, markedIn, blocksAt};
 use crate::heads::Head;
+use crate::heads::Heads;
 use crate::reader::Reader;
 use crate::table::Command;
 use crate::table::Context;
@@ -70,4 +78,29 @@ pub(crate) fn first_block(bytes: &[u8], at: usize, marks: &[bool; 256]) -> Optio
             return None;
         };
     }
+}
+
+// The first block, over all tasks, whose routine's code is marked, and before it the head of its task.
+pub(crate) fn marked_block(bytes: &[u8], tasks: &Heads, marks: &[bool; 256]) -> Option<(Head, Head)>
+    ensures { λ r. ⌜ ((ts : List Task) → held (now (tasks .entry)) ≡ map taskHead ts → All (Task-read (now (bytes .entry))) ts → r ≡ markedIn (now (marks .entry)) ts) ⌝ }
+{
+    let count = tasks.len();
+    for i in 0..count {
+        let task = tasks.get(i);
+        if let Some(block) = first_block(bytes, task.at, marks) {
+            return Some((task, block));
+        }
+    }
+    None
+}
+
+// The codes that no routine has.
+pub(crate) fn unlisted(routines: &Heads) -> [bool; 256]
+    ensures { λ r. ⌜ Row-says r (λ c. not (used c (held (now (routines .entry))))) ⌝ }
+{
+    let mut marks = [false; 256];
+    for c in 0..256usize {
+        marks[c] = !routines.contains(c as u8);
+    }
+    marks
 }

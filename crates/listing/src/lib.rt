@@ -1,6 +1,7 @@
 // Listings of routines and tasks: the command table, reading, worst costs and loading.
 pub mod blocks;
 pub mod calls;
+pub mod cost;
 pub mod cycles;
 pub mod fault;
 pub mod heads;
