@@ -9,3 +9,4 @@ pub mod Cycles
 pub mod Steps
 pub mod Bodies
 pub mod Costing
+pub mod Costed

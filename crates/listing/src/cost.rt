@@ -16,10 +16,18 @@ ghost use Rattle.listing.specs.Trees.{Routine, costRun};
 ghost use Rattle.listing.specs.Runs.{Ended, byCode, runAt};
 ghost use Rattle.listing.specs.Calls.{callsAt};
 ghost use Rattle.listing.specs.Cycles.{entry, Tabled, Wide};
-ghost use Rattle.listing.specs.Costing.{tableOf, unknownIn, cycleFrom, dearFrom, costBy, costIn, callsIn, TableTold};
+ghost use Rattle.listing.specs.Costing.{tableOf, unknownIn, cycleFrom, dearFrom, costBy, costIn, callsIn, TableTold, costing};
+ghost use Rattle.listing.specs.Costed.{costTold, costsOf};
+use crate::blocks::marked_block;
+use crate::blocks::unlisted;
 use crate::calls::Calls;
+use crate::cycles::reached;
+use crate::fault::CostFault;
+use crate::fault::CostFromRead;
 use crate::heads::Head;
 use crate::heads::Heads;
+use crate::outline::Outline;
+use crate::read::read;
 use crate::reader::Reader;
 use crate::table::Context;
 use crate::walk::cost_run;
@@ -104,4 +112,47 @@ fn settled(bytes: &[u8], routines: &Heads) -> [u32; 256]
         costs = pass_costs(bytes, routines, &costs);
     }
     costs
+}
+
+// What costing finds: the outline of a listing, and what each routine costs, by its code.
+#[derive(Clone, Copy)]
+pub struct Costs {
+    pub outline: Outline,
+    pub by_code: [u32; 256],
+}
+
+// Reads a listing and costs its routines: a call of an unknown routine comes first, then a cycle, then a routine too dear.
+pub fn cost(bytes: &[u8]) -> Result<Costs, CostFault>
+    ensures { λ r. ⌜ costTold r ≡ costsOf (costing (now (bytes .entry))) ⌝ }
+{
+    let outline = read(bytes)?;
+    let calls = match call_table(bytes, &outline.routines) {
+        Ok(rows) => rows,
+        Err(head) => return Err(CostFault::Unknown {
+            at: head.at,
+            code: head.code,
+        }),
+    };
+    let strange = unlisted(&outline.routines);
+    if let Some((_, block)) = marked_block(bytes, &outline.tasks, &strange) {
+        return Err(CostFault::Unknown {
+            at: block.at,
+            code: block.code,
+        });
+    }
+    let rows = reached(&calls, &outline.routines);
+    if let Some(head) = first_cycle(&rows, &outline.routines) {
+        return Err(CostFault::Cycle {
+            at: head.at,
+            routine: head.code,
+        });
+    }
+    let by_code = settled(bytes, &outline.routines);
+    if let Some(head) = first_dear(&by_code, &outline.routines) {
+        return Err(CostFault::TooDear {
+            at: head.at,
+            routine: head.code,
+        });
+    }
+    Ok(Costs { outline, by_code })
 }
