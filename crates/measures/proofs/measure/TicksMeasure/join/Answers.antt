@@ -1,0 +1,7 @@
+use mathlib.Core.Path.{refl}
+use native.Mathlib.Omega.{arith}
+use Rattle.measures.proofs.Reach.{bounded}
+use Rattle.measures.proofs.measure.TicksMeasure.join.Needs as need
+
+pub add-result : need.add-result
+add-result c = omega (arith, bounded (λ v. v .ticks) refl (λ v p. omega (arith, p .small .0)) 62 (c .args .self) (c .pre), c .args .p .small .0)

@@ -1,0 +1,4 @@
+pub mod Fits
+pub mod Words
+pub mod Answering
+pub mod Walks
