@@ -19,7 +19,7 @@ use Rattle.listing.specs.declared.table.Command.the-variants as command
 use Rattle.listing.specs.declared.table.Kind.{Kind}
 use Rattle.listing.specs.declared.table.Kind.the-variants as kind
 use Rattle.listing.specs.Commands.{rowIn, widthOf, numbersOf, within, commandOf, top, Front, none, unknown, short, range, a, byRow, byNumbers, decode, answered, moved, answer, after}
-use Rattle.listing.proofs.Rows.{small}
+use Rattle.listing.proofs.Rows.{Ranged, ranged}
 
 pub record Written (context : Context) (bs : List ℕ) (c : Command) (n : ℕ) : Type 0 where
   pub byte : ℕ
@@ -88,7 +88,7 @@ pub small-routine : (context : Context) (bs : List ℕ) (p at c : ℕ) → answe
 small-routine context bs p at c e =
     let w = read-written context bs p at (command.Routine c) e in
     let x : Written context (drop p bs) (command.Routine c) (w .0) = w .1 in
-    routine-kind (x .row .kind) (numbersOf (x .row) (x .rest)) c (x .command-is) (small context (x .byte) (x .row) (x .row-is) (numbersOf (x .row) (x .rest)) (x .fits) .0)
+    routine-kind (x .row .kind) (numbersOf (x .row) (x .rest)) c (x .command-is) (ranged context (x .byte) (x .row) (x .row-is) (numbersOf (x .row) (x .rest)) (x .fits) .first)
 
 block-kind : (k : Kind) (n : Numbers) (c : ℕ) → commandOf k n ≡ command.Block c → n .first ≤ top k → c < 256
 block-kind kind.Routine n c e h = let z : _≡_ {A = ℕ} 0 1 = cc in absurd (omega arith)
@@ -110,4 +110,49 @@ pub small-block : (context : Context) (bs : List ℕ) (p at c : ℕ) → answer 
 small-block context bs p at c e =
     let w = read-written context bs p at (command.Block c) e in
     let x : Written context (drop p bs) (command.Block c) (w .0) = w .1 in
-    block-kind (x .row .kind) (numbersOf (x .row) (x .rest)) c (x .command-is) (small context (x .byte) (x .row) (x .row-is) (numbersOf (x .row) (x .rest)) (x .fits) .0)
+    block-kind (x .row .kind) (numbersOf (x .row) (x .rest)) c (x .command-is) (ranged context (x .byte) (x .row) (x .row-is) (numbersOf (x .row) (x .rest)) (x .fits) .first)
+
+-- the ranges of a task's numbers, and of a point's ticks
+task-kind : (k : Kind) (n : Numbers) (c p d : ℕ) → commandOf k n ≡ command.Task c p d → Ranged k n → (10 ≤ p) × (p ≤ 1000000) × (1 ≤ d) × (d ≤ p)
+task-kind kind.Routine n c p d e r = let z : _≡_ {A = ℕ} 0 1 = cc in absurd (omega arith)
+task-kind kind.Work n c p d e r = let z : _≡_ {A = ℕ} 0 1 = cc in absurd (omega arith)
+task-kind kind.Call n c p d e r = let z : _≡_ {A = ℕ} 0 1 = cc in absurd (omega arith)
+task-kind kind.Either n c p d e r = let z : _≡_ {A = ℕ} 0 1 = cc in absurd (omega arith)
+task-kind kind.Or n c p d e r = let z : _≡_ {A = ℕ} 0 1 = cc in absurd (omega arith)
+task-kind kind.EndEither n c p d e r = let z : _≡_ {A = ℕ} 0 1 = cc in absurd (omega arith)
+task-kind kind.Repeat n c p d e r = let z : _≡_ {A = ℕ} 0 1 = cc in absurd (omega arith)
+task-kind kind.EndRepeat n c p d e r = let z : _≡_ {A = ℕ} 0 1 = cc in absurd (omega arith)
+task-kind kind.EndRoutine n c p d e r = let z : _≡_ {A = ℕ} 0 1 = cc in absurd (omega arith)
+task-kind kind.Task n c p d e r = let x : n .second ≡ p = cc in let y : n .third ≡ d = cc in (omega (arith, r .least-second), omega (arith, r .second), omega (arith, r .least-third), omega (arith, r .rising))
+task-kind kind.Block n c p d e r = let z : _≡_ {A = ℕ} 0 1 = cc in absurd (omega arith)
+task-kind kind.Point n c p d e r = let z : _≡_ {A = ℕ} 0 1 = cc in absurd (omega arith)
+task-kind kind.EndTask n c p d e r = let z : _≡_ {A = ℕ} 0 1 = cc in absurd (omega arith)
+task-kind kind.Sheet n c p d e r = let z : _≡_ {A = ℕ} 0 1 = cc in absurd (omega arith)
+
+pub task-ranges : (context : Context) (bs : List ℕ) (q at c p d : ℕ) → answer context bs q ≡ Ok (Some (at, command.Task c p d)) → (10 ≤ p) × (p ≤ 1000000) × (1 ≤ d) × (d ≤ p)
+task-ranges context bs q at c p d e =
+    let w = read-written context bs q at (command.Task c p d) e in
+    let x : Written context (drop q bs) (command.Task c p d) (w .0) = w .1 in
+    task-kind (x .row .kind) (numbersOf (x .row) (x .rest)) c p d (x .command-is) (ranged context (x .byte) (x .row) (x .row-is) (numbersOf (x .row) (x .rest)) (x .fits))
+
+point-kind : (k : Kind) (n : Numbers) (t q : ℕ) → commandOf k n ≡ command.Point t q → Ranged k n → t ≤ 1000000
+point-kind kind.Routine n t q e r = let z : _≡_ {A = ℕ} 0 1 = cc in absurd (omega arith)
+point-kind kind.Work n t q e r = let z : _≡_ {A = ℕ} 0 1 = cc in absurd (omega arith)
+point-kind kind.Call n t q e r = let z : _≡_ {A = ℕ} 0 1 = cc in absurd (omega arith)
+point-kind kind.Either n t q e r = let z : _≡_ {A = ℕ} 0 1 = cc in absurd (omega arith)
+point-kind kind.Or n t q e r = let z : _≡_ {A = ℕ} 0 1 = cc in absurd (omega arith)
+point-kind kind.EndEither n t q e r = let z : _≡_ {A = ℕ} 0 1 = cc in absurd (omega arith)
+point-kind kind.Repeat n t q e r = let z : _≡_ {A = ℕ} 0 1 = cc in absurd (omega arith)
+point-kind kind.EndRepeat n t q e r = let z : _≡_ {A = ℕ} 0 1 = cc in absurd (omega arith)
+point-kind kind.EndRoutine n t q e r = let z : _≡_ {A = ℕ} 0 1 = cc in absurd (omega arith)
+point-kind kind.Task n t q e r = let z : _≡_ {A = ℕ} 0 1 = cc in absurd (omega arith)
+point-kind kind.Block n t q e r = let z : _≡_ {A = ℕ} 0 1 = cc in absurd (omega arith)
+point-kind kind.Point n t q e r = let x : n .first ≡ t = cc in omega (arith, r .first)
+point-kind kind.EndTask n t q e r = let z : _≡_ {A = ℕ} 0 1 = cc in absurd (omega arith)
+point-kind kind.Sheet n t q e r = let z : _≡_ {A = ℕ} 0 1 = cc in absurd (omega arith)
+
+pub point-ranges : (context : Context) (bs : List ℕ) (p at t q : ℕ) → answer context bs p ≡ Ok (Some (at, command.Point t q)) → t ≤ 1000000
+point-ranges context bs p at t q e =
+    let w = read-written context bs p at (command.Point t q) e in
+    let x : Written context (drop p bs) (command.Point t q) (w .0) = w .1 in
+    point-kind (x .row .kind) (numbersOf (x .row) (x .rest)) t q (x .command-is) (ranged context (x .byte) (x .row) (x .row-is) (numbersOf (x .row) (x .rest)) (x .fits))

@@ -13,6 +13,8 @@ use Rattle.std.proofs.shelf.Tests.{cond-true, cond-false, cases-bool, and-parts
 use Rattle.std.specs.declared.option.Option.{Option}
 use Rattle.std.specs.declared.option.Option.the-variants.{Some, None}
 use Rattle.listing.specs.declared.table.Row.{Row}
+use Rattle.listing.specs.declared.table.Kind.{Kind}
+use Rattle.listing.specs.declared.table.Kind.the-variants as kind
 use Rattle.listing.specs.declared.table.Numbers.{Numbers}
 use Rattle.listing.specs.declared.table.Context.{Context}
 use Rattle.listing.specs.Commands.{rowOf, rows, rowIn, allowed, allows, holds, within, top, topSecond, Narrow}
@@ -54,32 +56,83 @@ pub allowed-row : (context : Context) (b : ℕ) (r : Row) → rowIn context b �
 unfolding rowIn
 allowed-row context b r e = by-row context (rowOf rows b) r e
 
--- each row's operands have at most four bytes, and no larger numbers than its kind allows
-abbrev sound : Row → Bool
-sound r = leb (r .first .width) 4 && (leb (r .second .width) 4 && (leb (r .third .width) 4 && (leb (r .first .top) (top (r .kind)) && leb (r .second .top) (topSecond (r .kind)))))
+-- the least second and third operands of a kind
+abbrev pub leastSecond : Kind → ℕ
+leastSecond kind.Routine = 0
+leastSecond kind.Work = 0
+leastSecond kind.Call = 0
+leastSecond kind.Either = 0
+leastSecond kind.Or = 0
+leastSecond kind.EndEither = 0
+leastSecond kind.Repeat = 0
+leastSecond kind.EndRepeat = 0
+leastSecond kind.EndRoutine = 0
+leastSecond kind.Task = 10
+leastSecond kind.Block = 0
+leastSecond kind.Point = 0
+leastSecond kind.EndTask = 0
+leastSecond kind.Sheet = 0
 
-five : (a b c d e : Bool) → (a && (b && (c && (d && e)))) ≡ true → (a ≡ true) × (b ≡ true) × (c ≡ true) × (d ≡ true) × (e ≡ true)
-five a b c d e h =
-    let p = and-parts a (b && (c && (d && e))) h in
-    let q = and-parts b (c && (d && e)) (p .1) in
-    let r = and-parts c (d && e) (q .1) in
-    let s = and-parts d e (r .1) in
-    (p .0, q .0, r .0, s .0, s .1)
+abbrev pub leastThird : Kind → ℕ
+leastThird kind.Routine = 0
+leastThird kind.Work = 0
+leastThird kind.Call = 0
+leastThird kind.Either = 0
+leastThird kind.Or = 0
+leastThird kind.EndEither = 0
+leastThird kind.Repeat = 0
+leastThird kind.EndRepeat = 0
+leastThird kind.EndRoutine = 0
+leastThird kind.Task = 1
+leastThird kind.Block = 0
+leastThird kind.Point = 0
+leastThird kind.EndTask = 0
+leastThird kind.Sheet = 0
+
+-- each row's operands have at most four bytes, and the ranges of its kind
+abbrev narrows : Row → Bool
+narrows r = leb (r .first .width) 4 && (leb (r .second .width) 4 && leb (r .third .width) 4)
+
+abbrev ranges : Row → Bool
+ranges r = leb (r .first .top) (top (r .kind)) && (leb (r .second .top) (topSecond (r .kind)) && (leb (leastSecond (r .kind)) (r .second .low) && leb (leastThird (r .kind)) (r .third .low)))
+
+three : (a b c : Bool) → (a && (b && c)) ≡ true → (a ≡ true) × (b ≡ true) × (c ≡ true)
+three a b c h =
+    let p = and-parts a (b && c) h in
+    let q = and-parts b c (p .1) in
+    (p .0, q .0, q .1)
+
+four : (a b c d : Bool) → (a && (b && (c && d))) ≡ true → (a ≡ true) × (b ≡ true) × (c ≡ true) × (d ≡ true)
+four a b c d h =
+    let p = and-parts a (b && (c && d)) h in
+    let q = three b c d (p .1) in
+    (p .0, q .0, q .1, q .2)
+
+-- numbers in the ranges of a kind
+pub record Ranged (k : Kind) (n : Numbers) : Type 0 where
+  pub first : n .first ≤ top k
+  pub second : n .second ≤ topSecond k
+  pub least-second : leastSecond k ≤ n .second
+  pub least-third : leastThird k ≤ n .third
+  pub rising : n .third ≤ n .second
 
 module _ (context : Context) (b : ℕ) (r : Row) (e : rowIn context b ≡ Some r) where
-  is-sound : sound r ≡ true
-  is-sound = found sound rows b r refl (allowed-row context b r e)
-
-  is-parts : (leb (r .first .width) 4 ≡ true) × (leb (r .second .width) 4 ≡ true) × (leb (r .third .width) 4 ≡ true) × (leb (r .first .top) (top (r .kind)) ≡ true) × (leb (r .second .top) (topSecond (r .kind)) ≡ true)
-  is-parts = five (leb (r .first .width) 4) (leb (r .second .width) 4) (leb (r .third .width) 4) (leb (r .first .top) (top (r .kind))) (leb (r .second .top) (topSecond (r .kind))) is-sound
-
   pub narrow : Narrow r
-  narrow = (leb-true _ _ (is-parts .0), leb-true _ _ (is-parts .1), leb-true _ _ (is-parts .2))
+  narrow =
+      let p = three (leb (r .first .width) 4) (leb (r .second .width) 4) (leb (r .third .width) 4) (found narrows rows b r refl (allowed-row context b r e)) in
+      (leb-true _ _ (p .0), leb-true _ _ (p .1), leb-true _ _ (p .2))
 
-  pub small : (n : Numbers) → within r n ≡ true → (n .first ≤ top (r .kind)) × (n .second ≤ topSecond (r .kind))
-  small n h =
-      let p : (holds (r .first) (n .first) ≡ true) × (_ ≡ true) = and-parts (holds (r .first) (n .first)) _ h in
-      let q : (holds (r .second) (n .second) ≡ true) × (_ ≡ true) = and-parts (holds (r .second) (n .second)) _ (p .1) in
-      let x : n .first ≤ r .first .top = leb-true _ _ (and-parts (leb (r .first .low) (n .first)) _ (p .0) .1) in
-      let y : n .second ≤ r .second .top = leb-true _ _ (and-parts (leb (r .second .low) (n .second)) _ (q .0) .1) in
-      (omega (arith, leb-true _ _ (is-parts .3)), omega (arith, leb-true _ _ (is-parts .4)))
+  pub ranged : (n : Numbers) → within r n ≡ true → Ranged (r .kind) n
+  ranged n h =
+      let p = four (leb (r .first .top) (top (r .kind))) (leb (r .second .top) (topSecond (r .kind))) (leb (leastSecond (r .kind)) (r .second .low)) (leb (leastThird (r .kind)) (r .third .low)) (found ranges rows b r refl (allowed-row context b r e)) in
+      let q = four (holds (r .first) (n .first)) (holds (r .second) (n .second)) (holds (r .third) (n .third)) (leb (n .third) (n .second)) h in
+      let x = and-parts (leb (r .first .low) (n .first)) (leb (n .first) (r .first .top)) (q .0) in
+      let y = and-parts (leb (r .second .low) (n .second)) (leb (n .second) (r .second .top)) (q .1) in
+      let z = and-parts (leb (r .third .low) (n .third)) (leb (n .third) (r .third .top)) (q .2) in
+      record {
+        first = omega (arith, leb-true _ _ (x .1), leb-true _ _ (p .0));
+        second = omega (arith, leb-true _ _ (y .1), leb-true _ _ (p .1));
+        least-second = omega (arith, leb-true _ _ (y .0), leb-true _ _ (p .2));
+        least-third = omega (arith, leb-true _ _ (z .0), leb-true _ _ (p .3));
+        rising = leb-true _ _ (q .3);
+      }

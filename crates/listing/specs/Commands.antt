@@ -139,34 +139,34 @@ Narrow row = (row .first .width ≤ 4) × (row .second .width ≤ 4) × (row .th
 -- the largest first operand of a kind, and the largest second one
 abbrev pub top : Kind → ℕ
 top kind.Routine = 255
-top kind.Work = 4294967295
+top kind.Work = 1000000
 top kind.Call = 255
-top kind.Either = 4294967295
-top kind.Or = 4294967295
-top kind.EndEither = 4294967295
-top kind.Repeat = 65535
-top kind.EndRepeat = 4294967295
-top kind.EndRoutine = 4294967295
+top kind.Either = 0
+top kind.Or = 0
+top kind.EndEither = 0
+top kind.Repeat = 1000
+top kind.EndRepeat = 0
+top kind.EndRoutine = 0
 top kind.Task = 255
 top kind.Block = 255
-top kind.Point = 4294967295
-top kind.EndTask = 4294967295
-top kind.Sheet = 4294967295
+top kind.Point = 1000000
+top kind.EndTask = 0
+top kind.Sheet = 65535
 
 abbrev pub topSecond : Kind → ℕ
-topSecond kind.Routine = 4294967295
-topSecond kind.Work = 4294967295
-topSecond kind.Call = 4294967295
-topSecond kind.Either = 4294967295
-topSecond kind.Or = 4294967295
-topSecond kind.EndEither = 4294967295
-topSecond kind.Repeat = 4294967295
-topSecond kind.EndRepeat = 4294967295
-topSecond kind.EndRoutine = 4294967295
-topSecond kind.Task = 4294967295
-topSecond kind.Block = 4294967295
+topSecond kind.Routine = 0
+topSecond kind.Work = 0
+topSecond kind.Call = 0
+topSecond kind.Either = 0
+topSecond kind.Or = 0
+topSecond kind.EndEither = 0
+topSecond kind.Repeat = 0
+topSecond kind.EndRepeat = 0
+topSecond kind.EndRoutine = 0
+topSecond kind.Task = 1000000
+topSecond kind.Block = 0
 topSecond kind.Point = 65535
-topSecond kind.EndTask = 4294967295
+topSecond kind.EndTask = 0
 topSecond kind.Sheet = 4294967295
 
 abbrev pub commandOf : Kind → Numbers → Command

@@ -6,7 +6,7 @@ use lib.ListN.{getD}
 use Rattle.std.specs.declared.option.Option.the-variants.{Some}
 use Rattle.std.specs.declared.result.Result.the-variants.{Ok}
 use Rattle.listing.specs.Commands.{moved, answered, answer, after}
-use Rattle.listing.proofs.Rows.{narrow, small}
+use Rattle.listing.proofs.Rows.{narrow, ranged}
 use Rattle.listing.proofs.Decoded.{at-end, at-unknown, at-short, at-range, at-command}
 use Rattle.listing.proofs.reader.Reader.next.Needs as need
 
@@ -48,5 +48,5 @@ returns c =
 
 pub made-requires : need.made-requires
 made-requires c κs =
-    let e = small _ _ _ (sym (c .in-Some .ensures tt)) _ (sym (c .if-not-holds .ensures tt)) in
-    (e .0, e .1)
+    let e = ranged _ _ _ (sym (c .in-Some .ensures tt)) _ (sym (c .if-not-holds .ensures tt)) in
+    (e .first, e .second)
