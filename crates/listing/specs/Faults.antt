@@ -4,6 +4,8 @@ use Rattle.std.specs.declared.option.Option.{Option}
 use Rattle.std.specs.declared.option.Option.the-variants.{Some, None}
 use Rattle.listing.specs.declared.fault.CostFault.{CostFault}
 use Rattle.listing.specs.declared.fault.CostFault.the-variants.{Read, Unknown, Cycle, TooDear}
+use Rattle.listing.specs.declared.fault.LoadFault.{LoadFault}
+use Rattle.listing.specs.declared.fault.LoadFault.the-variants.{Cost, FreeBlock, NoMemory}
 use Rattle.listing.specs.declared.fault.ReadFault.{ReadFault}
 use Rattle.listing.specs.declared.fault.ReadFault.the-variants.{TooLong, NotAllowed, Short, Open, OutOfRange, CodeUsed, TooMany}
 
@@ -43,3 +45,19 @@ costCode (Read f) = None
 costCode (Unknown at c) = Some c
 costCode (Cycle at c) = Some c
 costCode (TooDear at c) = Some c
+
+abbrev pub loadNumber : LoadFault → ℕ
+loadNumber (Cost f) = costNumber f
+loadNumber (FreeBlock at c) = 10
+loadNumber NoMemory = 0
+
+abbrev pub loadPlace : LoadFault → ℕ
+loadPlace (Cost f) = costPlace f
+loadPlace (FreeBlock at c) = at
+loadPlace NoMemory = 0
+
+-- the code not found, the routine's, or the task's
+abbrev pub loadCode : LoadFault → Option ℕ
+loadCode (Cost f) = costCode f
+loadCode (FreeBlock at c) = Some c
+loadCode NoMemory = None

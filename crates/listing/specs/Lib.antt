@@ -10,3 +10,4 @@ pub mod Steps
 pub mod Bodies
 pub mod Costing
 pub mod Costed
+pub mod Loading

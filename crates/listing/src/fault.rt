@@ -1,7 +1,10 @@
-// What reading and costing refuse, each case with the place that is told.
+// What reading, costing and loading refuse, each case with the place that is told.
 ghost use mathlib.Core.Path.{_≡_};
 ghost use Rattle.listing.specs.declared.fault.CostFault.the-variants.{Read};
-ghost use Rattle.listing.specs.Faults.{readNumber, readPlace, costNumber, costPlace, costCode};
+ghost use Rattle.listing.specs.declared.fault.LoadFault.the-variants.{Cost, NoMemory};
+ghost use Rattle.listing.specs.Faults.{readNumber, readPlace, costNumber, costPlace, costCode, loadNumber, loadPlace, loadCode};
+use std::alloc::AllocError;
+use std::alloc::Refused;
 
 #[derive(Clone, Copy, Debug, PartialEq)]
 pub enum ReadFault {
@@ -102,6 +105,73 @@ impl CostFault {
             CostFault::Unknown { code, .. } => Some(code),
             CostFault::Cycle { routine, .. } => Some(routine),
             CostFault::TooDear { routine, .. } => Some(routine),
+        }
+    }
+}
+
+#[derive(Clone, Copy, Debug, PartialEq)]
+pub enum LoadFault {
+    Cost(CostFault),
+    // A block's routine costs 0.
+    FreeBlock { at: usize, task: u8 },
+    // No memory was to be had.
+    NoMemory,
+}
+
+pub impl From<CostFault> for LoadFault as LoadFromCost {
+    ghost converts = { λ e r. r ≡ Cost e };
+
+    fn from(e: CostFault) -> LoadFault {
+        LoadFault::Cost(e)
+    }
+}
+
+pub impl From<AllocError> for LoadFault as LoadFromAlloc {
+    ghost converts = { λ _ r. r ≡ NoMemory };
+
+    fn from(_: AllocError) -> LoadFault {
+        LoadFault::NoMemory
+    }
+}
+
+pub impl<T: Drop> From<Refused<T>> for LoadFault as LoadFromRefused {
+    ghost converts = { λ _ r. r ≡ NoMemory };
+
+    fn from(_: Refused<T>) -> LoadFault {
+        LoadFault::NoMemory
+    }
+}
+
+impl LoadFault {
+    // Its number in the table of refusals; 0 for want of memory, which the table does not have.
+    pub fn number(self) -> u8
+        ensures { λ r. ⌜ r ≡ loadNumber self ⌝ }
+    {
+        match self {
+            LoadFault::Cost(fault) => fault.number(),
+            LoadFault::FreeBlock { .. } => 10,
+            LoadFault::NoMemory => 0,
+        }
+    }
+
+    pub fn place(self) -> usize
+        ensures { λ r. ⌜ r ≡ loadPlace self ⌝ }
+    {
+        match self {
+            LoadFault::Cost(fault) => fault.place(),
+            LoadFault::FreeBlock { at, .. } => at,
+            LoadFault::NoMemory => 0,
+        }
+    }
+
+    // The code that is told: the one not found, the routine's, or the task's.
+    pub fn code(self) -> Option<u8>
+        ensures { λ r. ⌜ r ≡ loadCode self ⌝ }
+    {
+        match self {
+            LoadFault::Cost(fault) => fault.code(),
+            LoadFault::FreeBlock { task, .. } => Some(task),
+            LoadFault::NoMemory => None,
         }
     }
 }

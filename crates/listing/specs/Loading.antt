@@ -1,0 +1,65 @@
+-- What loading tells of a listing. Assumes nothing.
+use mathlib.Core.List.{List, [], _∷_, _++_, map}
+use mathlib.Core.Bool.{Bool, true, false, cond}
+use mathlib.Core.Path.{_≡_}
+use Prim.Native.Nat.{ℕ, zero, suc, _+_, _<_, _≤_}
+use lib.Dec.{eqb}
+use lib.ListN.{length, getD}
+use Rattle.std.specs.Of.Vec.{vec-items, vec-len}
+use Rattle.std.specs.Iters.{counting}
+use Rattle.std.specs.shelf.Lists.{All}
+use Rattle.std.specs.declared.option.Option.{Option}
+use Rattle.std.specs.declared.option.Option.the-variants.{Some, None}
+use Rattle.std.specs.declared.result.Result.{Result}
+use Rattle.std.specs.declared.result.Result.the-variants.{Ok, Err}
+use Rattle.tasks.specs.declared.blocks.Block.{Block}
+use Rattle.tasks.specs.declared.points.Point.{Point}
+use Rattle.tasks.specs.declared.model.Task.{Task as HeldTask}
+use Rattle.listing.specs.declared.fault.CostFault.{CostFault}
+use Rattle.listing.specs.declared.fault.LoadFault.{LoadFault}
+use Rattle.listing.specs.declared.fault.LoadFault.the-variants.{Cost, FreeBlock, NoMemory}
+use Rattle.listing.specs.declared.heads.Head.{Head}
+use Rattle.listing.specs.Trees.{Blocks, final, block, Task, Listing, blockHeads}
+use Rattle.listing.specs.Steps.{markedIn}
+use Rattle.listing.specs.Costing.{costIn, costing}
+
+-- the points between blocks: ticks and charge
+abbrev pub pointsOf : Blocks → List (ℕ × ℕ)
+pointsOf (final at c) = []
+pointsOf (block at c t q b) = (t, q) ∷ pointsOf b
+
+-- the costs of blocks, where each routine costs what `of` says
+abbrev pub blockCosts : (ℕ → ℕ) → Blocks → List ℕ
+blockCosts of b = map (λ (h : Head). of (h .code)) (blockHeads b)
+
+-- a task as it is held is one of a listing
+pub record Is (of : ℕ → ℕ) (x : HeldTask) (t : Task) : Type 0 where
+  pub code : x .code ≡ t .code
+  pub period : x .period ≡ t .period
+  pub deadline : x .deadline ≡ t .deadline
+  pub blocks : map (λ (b : Block). b .cost) (vec-items (x .blocks .records)) ≡ blockCosts of (t .blocks)
+  pub points : map (λ (p : Point). (p .ticks, p .charge)) (vec-items (x .points)) ≡ pointsOf (t .blocks)
+
+-- tasks as they are held are those of a listing, in its order
+abbrev pub Are : (ℕ → ℕ) → List HeldTask → List Task → Type 0
+Are of [] [] = Unit {0}
+Are of [] (t ∷ ts) = ⊥
+Are of (x ∷ xs) [] = ⊥
+Are of (x ∷ xs) (t ∷ ts) = Is of x t × Are of xs ts
+
+-- the codes of routines that cost nothing
+abbrev pub freeMarks : (ℕ → ℕ) → List Bool
+freeMarks of = map (λ c. eqb (of c) 0) (counting 0 256)
+
+-- 10, over the whole listing
+abbrev pub unlessFree : Option (Head × Head) → Listing → Result Listing LoadFault
+unlessFree (Some x) l = Err (FreeBlock (x .1 .at) (x .0 .code))
+unlessFree None l = Ok l
+
+abbrev pub loadedAfter : Result Listing CostFault → Result Listing LoadFault
+loadedAfter (Ok l) = unlessFree (markedIn (freeMarks (costIn (l .routines) 32)) (l .tasks)) l
+loadedAfter (Err f) = Err (Cost f)
+
+-- the listing whose tasks are loaded, or the fault
+unfoldable pub loading : List ℕ → Result Listing LoadFault
+loading bs = loadedAfter (costing bs)
