@@ -14,10 +14,12 @@ use Rattle.std.specs.declared.result.Result.{Result}
 use Rattle.std.specs.declared.result.Result.the-variants.{Ok, Err}
 use Rattle.tasks.specs.declared.blocks.Block.{Block}
 use Rattle.tasks.specs.declared.points.Point.{Point}
+use Rattle.tasks.specs.Ranges.{bodyFits}
 use Rattle.tasks.specs.declared.model.Task.{Task as HeldTask}
 use Rattle.listing.specs.declared.fault.CostFault.{CostFault}
 use Rattle.listing.specs.declared.fault.LoadFault.{LoadFault}
 use Rattle.listing.specs.declared.fault.LoadFault.the-variants.{Cost, FreeBlock, NoMemory}
+use Rattle.listing.specs.declared.parts.Parts.{Parts}
 use Rattle.listing.specs.declared.heads.Head.{Head}
 use Rattle.listing.specs.Trees.{Blocks, final, block, Task, Listing, blockHeads}
 use Rattle.listing.specs.Steps.{markedIn}
@@ -63,3 +65,21 @@ loadedAfter (Err f) = Err (Cost f)
 -- the listing whose tasks are loaded, or the fault
 unfoldable pub loading : List ℕ → Result Listing LoadFault
 loading bs = loadedAfter (costing bs)
+
+-- every block's routine costs 1 to 1,000,000
+abbrev pub Priced : (ℕ → ℕ) → Blocks → Type 0
+Priced of b = All (λ (h : Head). (1 ≤ of (h .code)) × (of (h .code) ≤ 1000000)) (blockHeads b)
+
+-- blocks and points that make the body of a task
+pub record Made (of : ℕ → ℕ) (b : Blocks) (blocks : List Block) (points : List Point) : Type 0 where
+  pub costs : map (λ (x : Block). x .cost) blocks ≡ blockCosts of b
+  pub between : map (λ (p : Point). (p .ticks, p .charge)) points ≡ pointsOf b
+  pub fits : bodyFits blocks (length blocks) (length points) ≡ true
+
+abbrev pub BodyTold : (ℕ → ℕ) → Blocks → Result Parts LoadFault → Type 0
+BodyTold of b (Ok p) = Made of b (vec-items (p .blocks)) (vec-items (p .points))
+BodyTold of b (Err f) = f ≡ NoMemory
+
+abbrev pub TaskTold : (ℕ → ℕ) → Task → Result HeldTask LoadFault → Type 0
+TaskTold of t (Ok x) = Is of x t
+TaskTold of t (Err f) = f ≡ NoMemory
