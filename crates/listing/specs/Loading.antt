@@ -6,6 +6,7 @@ use Prim.Native.Nat.{ℕ, zero, suc, _+_, _<_, _≤_}
 use lib.Dec.{eqb}
 use lib.ListN.{length, getD}
 use Rattle.std.specs.Of.Vec.{vec-items, vec-len}
+use Rattle.std.specs.declared.vec.Vec.{Vec}
 use Rattle.std.specs.Iters.{counting}
 use Rattle.std.specs.shelf.Lists.{All}
 use Rattle.std.specs.declared.option.Option.{Option}
@@ -83,3 +84,14 @@ BodyTold of b (Err f) = f ≡ NoMemory
 abbrev pub TaskTold : (ℕ → ℕ) → Task → Result HeldTask LoadFault → Type 0
 TaskTold of t (Ok x) = Is of x t
 TaskTold of t (Err f) = f ≡ NoMemory
+
+abbrev pub TasksTold : {Z : Type 0} → (ℕ → ℕ) → List Task → Result (Vec HeldTask Z) LoadFault → Type 0
+TasksTold of ts (Ok v) = Are of (vec-items v) ts
+TasksTold of ts (Err f) = f ≡ NoMemory
+
+-- what the public loading call tells: the tasks at their true costs, want of memory, or the fault
+abbrev pub LoadTold : {Z : Type 0} → Result (Vec HeldTask Z) LoadFault → Result Listing LoadFault → Type 0
+LoadTold (Ok v) s = (l : Listing) × (s ≡ Ok l) × Are (costIn (l .routines) 32) (vec-items v) (l .tasks)
+LoadTold (Err (Cost f)) s = s ≡ Err (Cost f)
+LoadTold (Err (FreeBlock at c)) s = s ≡ Err (FreeBlock at c)
+LoadTold (Err NoMemory) s = (l : Listing) × (s ≡ Ok l)

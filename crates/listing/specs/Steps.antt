@@ -11,6 +11,7 @@ use Rattle.std.specs.declared.result.Result.the-variants.{Ok, Err}
 use Rattle.listing.specs.declared.fault.ReadFault.{ReadFault}
 use Rattle.listing.specs.declared.table.Command.{Command}
 use Rattle.listing.specs.declared.table.Context.the-variants.{Tasks}
+use Rattle.listing.specs.declared.parts.Clock.{Clock}
 use Rattle.listing.specs.declared.heads.Head.{Head}
 use Rattle.listing.specs.Commands.{answer, after}
 use Rattle.listing.specs.Heads.{head, used}
@@ -27,6 +28,12 @@ abbrev pub pointOf : Result (Option (ℕ × Command)) ReadFault → Option (ℕ 
 pointOf (Ok None) = None
 pointOf (Ok (Some c)) = byCommand (λ _. None) (λ _ _ _. None) (λ _. None) (λ t q. Some (t, q)) None None (c .1)
 pointOf (Err f) = None
+
+-- the task's code, period and deadline that were read
+abbrev pub taskOf : Result (Option (ℕ × Command)) ReadFault → Option Clock
+taskOf (Ok None) = None
+taskOf (Ok (Some c)) = byCommand (λ _. None) (λ n p d. Some (record { code = n; period = p; deadline = d })) (λ _. None) (λ _ _. None) None None (c .1)
+taskOf (Err f) = None
 
 -- the first of some heads whose code is marked
 abbrev pub firstMarked : List Bool → List Head → Option Head

@@ -4,7 +4,7 @@ ghost use Prim.Native.Nat.{ℕ, _+_, _<_, _≤_};
 ghost use lib.ListN.{length, getD};
 ghost use Rattle.std.specs.Options.{Cases as BySome};
 ghost use Rattle.std.specs.declared.result.Result.the-variants.{Ok};
-ghost use Rattle.listing.specs.declared.table.Context.the-variants.{BlockDue, AfterBlock};
+ghost use Rattle.listing.specs.declared.table.Context.the-variants.{Tasks, BlockDue, AfterBlock};
 ghost use Rattle.listing.specs.Commands.{answer, after};
 ghost use mathlib.Core.Bool.{not};
 ghost use mathlib.Core.List.{List, map};
@@ -14,14 +14,41 @@ ghost use Rattle.listing.specs.Cycles.{Row-says};
 ghost use Rattle.listing.specs.Heads.{held, used};
 ghost use Rattle.listing.specs.Listings.{taskHead};
 ghost use Rattle.listing.specs.Trees.{Blocks, Task, blockHeads};
-ghost use Rattle.listing.specs.Steps.{blockOf, pointOf, firstMarked, markedIn, blocksAt};
+ghost use Rattle.listing.specs.Steps.{taskOf, blockOf, pointOf, firstMarked, markedIn, blocksAt};
 use crate::heads::Head;
 use crate::heads::Heads;
+use crate::parts::Clock;
 use crate::reader::Reader;
 use crate::table::Command;
 use crate::table::Context;
 
 impl Reader<'_> {
+    // The task at the place, if one is there.
+    pub(crate) fn task(&mut self) -> Option<Clock>
+        ensures same { λ _. ⌜ now (self .exit) .bytes .now ≡ now (self .entry) .bytes .now ⌝ }
+        ensures moved { λ _. ⌜ now (self .exit) .at ≡ after Tasks (now (self .entry) .bytes .now) (now (self .entry) .at) ⌝ }
+        ensures told { λ r. ⌜ r ≡ taskOf (answer Tasks (now (self .entry) .bytes .now) (now (self .entry) .at)) ⌝ }
+    {
+        let Ok(read) = self.next(Context::Tasks) else {
+            return None;
+        };
+        let Some((_, command)) = read else {
+            return None;
+        };
+        match command {
+            Command::Task {
+                code,
+                period,
+                deadline,
+            } => Some(Clock {
+                code,
+                period,
+                deadline,
+            }),
+            _ => None,
+        }
+    }
+
     // The block at the place, if one is there.
     pub(crate) fn block(&mut self) -> Option<Head>
         ensures same { λ _. ⌜ now (self .exit) .bytes .now ≡ now (self .entry) .bytes .now ⌝ }
