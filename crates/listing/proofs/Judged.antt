@@ -93,7 +93,7 @@ block-by bs p c at (Ok (Some k)) a e = small-block BlockDue bs p (k .0) c (a ∙
 block-command : (bs : List ℕ) (p c at : ℕ) → blockOf (answer BlockDue bs p) ≡ Some (head c at) → c < 256
 block-command bs p c at e = block-by bs p c at (answer BlockDue bs p) refl e
 
-small-blocks : (n : ℕ) (bs : List ℕ) (count p : ℕ) (b : Blocks × ℕ) → blocksFrom bs n count p ≡ Ok b → All (λ (h : Head). h .code < 256) (blockHeads (b .0))
+pub small-blocks : (n : ℕ) (bs : List ℕ) (count p : ℕ) (b : Blocks × ℕ) → blocksFrom bs n count p ≡ Ok b → All (λ (h : Head). h .code < 256) (blockHeads (b .0))
 unfolding blocksFrom
 small-blocks zero bs count p b e = refused e
 small-blocks (suc n) bs count p b e =
@@ -176,7 +176,7 @@ dear-same bs of costs (r ∷ rs) all g =
     (cases-lt 1000000 (of (r .code)))
 
 -- where none is dear, every cost is in range
-none-dear : (of : ℕ → ℕ) (by : ℕ → ℕ) (rs : List Routine) (c : ℕ) → dearFrom of (map routineHead rs) ≡ None → (costBy by rs c ≡ 0) ⊎ (of c ≤ 1000000)
+pub none-dear : (of : ℕ → ℕ) (by : ℕ → ℕ) (rs : List Routine) (c : ℕ) → dearFrom of (map routineHead rs) ≡ None → (costBy by rs c ≡ 0) ⊎ (of c ≤ 1000000)
 none-dear of by [] c e = inl refl
 none-dear of by (r ∷ rs) c e =
     ⊎-elim

@@ -13,6 +13,8 @@ ghost use Rattle.listing.specs.Cycles.{Row-says};
 ghost use Rattle.listing.specs.Heads.{held};
 ghost use Rattle.listing.specs.Runs.{byCode};
 ghost use Rattle.listing.specs.Trees.{Blocks, Task as TreeTask};
+use crate::blocks::marked_block;
+use crate::cost::cost;
 use crate::fault::CostFault;
 use crate::fault::LoadFault;
 use crate::fault::LoadFromAlloc;
@@ -103,4 +105,20 @@ fn load_tasks(
         loaded.push(task)?;
     }
     Ok(loaded)
+}
+
+// Loads a listing: its tasks in order, each block at its routine's cost; or the first fault, or want of memory.
+pub fn load(heap: Global, bytes: &[u8]) -> Result<Vec<Task>, LoadFault>
+    ensures { λ r. ⌜ LoadTold r (loading (now (bytes .entry))) ⌝ }
+{
+    let costs = cost(bytes)?;
+    let by_code = costs.by_code;
+    let free = free_marks(&by_code);
+    if let Some((task, block)) = marked_block(bytes, &costs.outline.tasks, &free) {
+        return Err(LoadFault::FreeBlock {
+            at: block.at,
+            task: task.code,
+        });
+    }
+    load_tasks(heap, bytes, &by_code, &costs.outline.tasks)
 }
