@@ -11,3 +11,4 @@ pub mod Bodies
 pub mod Costing
 pub mod Costed
 pub mod Loading
+pub mod Reach
