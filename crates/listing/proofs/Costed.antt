@@ -26,7 +26,10 @@ use Rattle.listing.specs.Cycles.{entry, closed, codeAt, Tabled, Row-says}
 use Rattle.listing.specs.Steps.{markedIn}
 use Rattle.listing.specs.Bodies.{Body-read, Task-read, Capped}
 use Rattle.listing.specs.Costing.{callLists, blockLists, unknownIn, tableOf, reachTable, cycleFrom, dearFrom, costIn, callsIn, unless, judged, judgedAfter, costing}
+use Rattle.listing.specs.declared.cost.Costs.{Costs}
 use Rattle.listing.specs.Costed.{costTold, costsOf}
+use Rattle.listing.specs.Reach.{CycleTold}
+use Rattle.listing.proofs.Reached.{cycles-told}
 use Rattle.listing.proofs.Judged.{listing-parts, calls-same, unknown-append, block-unknown, blocks-known, cycle-same, dear-same, costs-are}
 
 fault-by : (f : ReadFault) (r : Result Listing ReadFault) → Err f ≡ outlineOf r → Err (Read f) ≡ costsOf (judgedAfter r)
@@ -36,6 +39,10 @@ fault-by f (Err g) e = let same : f ≡ g = cc in ap (λ h. Err (Read h)) same
 pub read-fault : (bs : List ℕ) (f : ReadFault) → Err f ≡ outlineOf (listing bs) → Err (Read f) ≡ costsOf (costing bs)
 unfolding costing
 read-fault bs f e = fault-by f (listing bs) e
+
+-- the two promises of costing
+abbrev CostBoth : List ℕ → Result Costs CostFault → Type 0
+CostBoth bs r = (costTold r ≡ costsOf (costing bs)) × CycleTold bs r
 
 -- the listing of an outline
 pub record Outlined (bs : List ℕ) (o : Outline) : Type 0 where
@@ -68,11 +75,13 @@ module _ (bs : List ℕ) (o : Outline) (x : Outlined bs o) where
   unfolding rs ts
   parts = listing-parts bs (x .it) (x .is)
 
-  few : length rs ≤ 32
-  unfolding rs
+  pub few : length (x .it .routines) ≤ 32
   few =
       let l = ap length (x .routines-are) ∙ length-map (x .it .routines) routineHead in
       omega (arith, l, length-take (o .routines .count) (o .routines .heads), o .routines .few)
+
+  pub both : (r : Result Costs CostFault) → costTold r ≡ costsOf (costing bs) → CostBoth bs r
+  both r e = (e, cycles-told bs (x .it) (x .is) few r e)
 
   whole : costsOf (costing bs) ≡ costsOf (judged (x .it))
   unfolding costing

@@ -4,7 +4,7 @@ use mathlib.Core.List.{List, [], _∷_, _++_, map}
 use mathlib.Core.Logic.{_⊎_, inl, inr, ⊎-elim}
 use mathlib.Core.Bool.{Bool, true, false, cond, _&&_, _||_}
 use Prim.Native.Nat.{ℕ, zero, suc, _+_, _-_, _*_, _<_, _≤_, max}
-use native.Mathlib.Nat.{add-zero}
+use native.Mathlib.Nat.{add-zero, zero-add}
 use native.Mathlib.Omega.{arith}
 use lib.Dec.{eqb}
 use lib.ListN.{length, getD}
@@ -258,3 +258,64 @@ module _ (rs : List Routine) (acyclic : (i : ℕ) → i < length rs → reachTab
   pub true-costs : length rs ≤ 32 → True-costs rs (costIn rs 32)
   unfolding costIn
   true-costs few c = settles 32 c (λ (g : Gives rs c). omega (arith, low (g .index) (g .inside)))
+
+-- what costing tells of cycles
+clash : {X Y F : Type 0} {x : X} {f : F} → _≡_ {A = Result X F} (Err f) (Ok x) → Y
+clash e = let z : _≡_ {A = ℕ} 0 1 = cc in absurd (omega arith)
+
+module _ (bs : List ℕ) (l : Listing) (is : listing bs ≡ Ok l) (few : length (l .routines) ≤ 32) where
+  rs : List Routine
+  rs = l .routines
+
+  settled : cycleFrom (reachTable rs) 0 (map routineHead rs) ≡ None → Costed-all rs
+  unfolding rs
+  settled e =
+      let free : (i : ℕ) → i < length rs → reachTable rs i (codeOf rs i) ≡ false = λ i h. ap (λ n. reachTable rs n (codeOf rs i)) (sym (zero-add i)) ∙ none-of (reachTable rs) 0 (map routineHead rs) e i (omega (arith, length-map rs routineHead)) in
+      record { acyclic = λ i h p. not-cyclic rs i (free i h) p; costs = true-costs rs free few }
+
+  told-first : (h : Head) (at c : ℕ) → cycleFrom (reachTable rs) 0 (map routineHead rs) ≡ Some h → at ≡ h .at → c ≡ h .code → First-cycle rs at c
+  unfolding rs
+  told-first h at c e x y =
+      let f = first-of (reachTable rs) 0 (map routineHead rs) h e in
+      let code-is : codeOf rs (f .index) ≡ h .code = ap (λ (z : Head). z .code) (f .told) in
+      record {
+        index = f .index;
+        inside = omega (arith, f .inside, length-map rs routineHead);
+        told = f .told ∙ (λ i. head (sym y i) (sym x i));
+        cyclic = is-cyclic rs (f .index) (ap (λ n. reachTable rs n (codeOf rs (f .index))) (sym (zero-add (f .index))) ∙ ap (λ n. reachTable rs (0 + f .index) n) code-is ∙ f .marked);
+        first = λ j k p. not-cyclic rs j (ap (λ n. reachTable rs n (codeOf rs j)) (sym (zero-add j)) ∙ f .before j k) p;
+      }
+
+  by-dear : (o : Option Head) (r : Result Costs CostFault) → cycleFrom (reachTable rs) 0 (map routineHead rs) ≡ None → costTold r ≡ costsOf (unless o TooDear (Ok l)) → CycleTold bs r
+  unfolding rs
+  by-dear o (Ok k) n e = (l, is, settled n)
+  by-dear o (Err (Read f)) n e = tt
+  by-dear o (Err (Unknown at c)) n e = tt
+  by-dear None (Err (Cycle at c)) n e = clash e
+  by-dear (Some h) (Err (Cycle at c)) n e = let z : _≡_ {A = ℕ} 0 1 = cc in absurd (omega arith)
+  by-dear o (Err (TooDear at c)) n e = (l, is, settled n)
+
+  by-cycle : (o : Option Head) (r : Result Costs CostFault) → cycleFrom (reachTable rs) 0 (map routineHead rs) ≡ o → costTold r ≡ costsOf (unless o Cycle (unless (dearFrom (costIn rs 32) (map routineHead rs)) TooDear (Ok l))) → CycleTold bs r
+  unfolding rs
+  by-cycle None r n e = by-dear _ r n e
+  by-cycle (Some h) (Ok k) n e = clash (sym e)
+  by-cycle (Some h) (Err (Read f)) n e = tt
+  by-cycle (Some h) (Err (Unknown at c)) n e = tt
+  by-cycle (Some h) (Err (Cycle at c)) n e =
+      let x : at ≡ h .at = cc in
+      let y : c ≡ h .code = cc in
+      (l, is, told-first h at c n x y)
+  by-cycle (Some h) (Err (TooDear at c)) n e = let z : _≡_ {A = ℕ} 0 1 = cc in absurd (omega arith)
+
+  by-unknown : (o : Option Head) (r : Result Costs CostFault) → costTold r ≡ costsOf (unless o Unknown (unless (cycleFrom (reachTable rs) 0 (map routineHead rs)) Cycle (unless (dearFrom (costIn rs 32) (map routineHead rs)) TooDear (Ok l)))) → CycleTold bs r
+  unfolding rs
+  by-unknown None r e = by-cycle _ r refl e
+  by-unknown (Some h) (Ok k) e = clash (sym e)
+  by-unknown (Some h) (Err (Read f)) e = tt
+  by-unknown (Some h) (Err (Unknown at c)) e = tt
+  by-unknown (Some h) (Err (Cycle at c)) e = let z : _≡_ {A = ℕ} 0 1 = cc in absurd (omega arith)
+  by-unknown (Some h) (Err (TooDear at c)) e = let z : _≡_ {A = ℕ} 0 1 = cc in absurd (omega arith)
+
+  pub cycles-told : (r : Result Costs CostFault) → costTold r ≡ costsOf (costing bs) → CycleTold bs r
+  unfolding rs costing
+  cycles-told r e = by-unknown _ r (e ∙ ap (λ x. costsOf (judgedAfter x)) is)

@@ -18,6 +18,7 @@ ghost use Rattle.listing.specs.Calls.{callsAt};
 ghost use Rattle.listing.specs.Cycles.{entry, Tabled, Wide};
 ghost use Rattle.listing.specs.Costing.{tableOf, unknownIn, cycleFrom, dearFrom, costBy, costIn, callsIn, TableTold, costing};
 ghost use Rattle.listing.specs.Costed.{costTold, costsOf};
+ghost use Rattle.listing.specs.Reach.{CycleTold};
 use crate::blocks::marked_block;
 use crate::blocks::unlisted;
 use crate::calls::Calls;
@@ -123,7 +124,8 @@ pub struct Costs {
 
 // Reads a listing and costs its routines: a call of an unknown routine comes first, then a cycle, then a routine too dear.
 pub fn cost(bytes: &[u8]) -> Result<Costs, CostFault>
-    ensures { λ r. ⌜ costTold r ≡ costsOf (costing (now (bytes .entry))) ⌝ }
+    ensures told { λ r. ⌜ costTold r ≡ costsOf (costing (now (bytes .entry))) ⌝ }
+    ensures cycles { λ r. ⌜ CycleTold (now (bytes .entry)) r ⌝ }
 {
     let outline = read(bytes)?;
     let calls = match call_table(bytes, &outline.routines) {
