@@ -21,7 +21,8 @@ impl Heads {
         ensures is { λ r. ⌜ r ≡ length (held (now (self .entry))) ⌝ }
         ensures few { λ r. ⌜ r ≤ 32 ⌝ }
     {
-        self.count
+        let count = self.count;
+        count
     }
 
     // The one at an index.
