@@ -30,7 +30,7 @@ use Rattle.listing.proofs.Spelled.{went}
 use Rattle.listing.proofs.Stepped.{refused}
 
 -- what went on past the tests of a code
-admitted : {X : Type 0} (c at : ℕ) (seen : List Head) (more : Result X ReadFault) (x : X) → admit c at seen more ≡ Ok x → more ≡ Ok x
+pub admitted : {X : Type 0} (c at : ℕ) (seen : List Head) (more : Result X ReadFault) (x : X) → admit c at seen more ≡ Ok x → more ≡ Ok x
 admitted c at seen more x e =
     ⊎-elim
     (λ bad. refused (sym (cond-true _ _ _ bad) ∙ e))
@@ -43,7 +43,7 @@ inside : {X : Type 0} {x y : X} → _≡_ {A = Result X ReadFault} (Ok x) (Ok y)
 inside e = cc
 
 -- the command that went on: a routine or none; a task; the end of a routine
-routine-cmd : {X : Type 0} (c : Command) (f : ℕ → Result X ReadFault) (d : Result X ReadFault) (x : X) → byCommand f (λ _ _ _. d) (λ _. d) (λ _ _. d) d d c ≡ Ok x → (d ≡ Ok x) ⊎ ((n : ℕ) × (c ≡ command.Routine n) × (f n ≡ Ok x))
+pub routine-cmd : {X : Type 0} (c : Command) (f : ℕ → Result X ReadFault) (d : Result X ReadFault) (x : X) → byCommand f (λ _ _ _. d) (λ _. d) (λ _ _. d) d d c ≡ Ok x → (d ≡ Ok x) ⊎ ((n : ℕ) × (c ≡ command.Routine n) × (f n ≡ Ok x))
 routine-cmd (command.Routine n) f d x h = inr (n, refl, h)
 routine-cmd (command.Work n) f d x h = inl h
 routine-cmd (command.Call n) f d x h = inl h
@@ -59,7 +59,7 @@ routine-cmd (command.Point n m) f d x h = inl h
 routine-cmd command.EndTask f d x h = inl h
 routine-cmd command.Sheet f d x h = inl h
 
-task-cmd : {X : Type 0} (c : Command) (f : ℕ → ℕ → ℕ → Result X ReadFault) (e : ReadFault) (x : X) → byCommand (λ _. Err e) f (λ _. Err e) (λ _ _. Err e) (Err e) (Err e) c ≡ Ok x → (n m k : ℕ) × (c ≡ command.Task n m k) × (f n m k ≡ Ok x)
+pub task-cmd : {X : Type 0} (c : Command) (f : ℕ → ℕ → ℕ → Result X ReadFault) (e : ReadFault) (x : X) → byCommand (λ _. Err e) f (λ _. Err e) (λ _ _. Err e) (Err e) (Err e) c ≡ Ok x → (n m k : ℕ) × (c ≡ command.Task n m k) × (f n m k ≡ Ok x)
 task-cmd (command.Routine n) f e x h = refused h
 task-cmd (command.Work n) f e x h = refused h
 task-cmd (command.Call n) f e x h = refused h
@@ -75,7 +75,7 @@ task-cmd (command.Point n m) f e x h = refused h
 task-cmd command.EndTask f e x h = refused h
 task-cmd command.Sheet f e x h = refused h
 
-closed-cmd : {X : Type 0} (c : Command) (t : Result X ReadFault) (e : ReadFault) (x : X) → byLast (Err e) (Err e) (Err e) t (Err e) c ≡ Ok x → (c ≡ command.EndRoutine) × (t ≡ Ok x)
+pub closed-cmd : {X : Type 0} (c : Command) (t : Result X ReadFault) (e : ReadFault) (x : X) → byLast (Err e) (Err e) (Err e) t (Err e) c ≡ Ok x → (c ≡ command.EndRoutine) × (t ≡ Ok x)
 closed-cmd (command.Routine n) t e x h = refused h
 closed-cmd (command.Work n) t e x h = refused h
 closed-cmd (command.Call n) t e x h = refused h

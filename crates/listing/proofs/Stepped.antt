@@ -68,13 +68,14 @@ follower-cmd command.Sheet p d e x h = refused h
 -- what came after a block: the end, or a point and more blocks
 abbrev pub Followed : List ℕ → ℕ → ℕ → ℕ → ℕ → ℕ → Blocks × ℕ → Type 0
 Followed bs n count p at c b =
-    ((pointOf (answer AfterBlock bs p) ≡ None) × (b .0 ≡ final at c))
-    ⊎ ((t m : ℕ) × (b′ : Blocks) × (pointOf (answer AfterBlock bs p) ≡ Some (t, m)) × (blocksFrom bs n (count + 1) (after AfterBlock bs p) ≡ Ok (b′, b .1)) × (b .0 ≡ block at c t m b′))
+    ((pointOf (answer AfterBlock bs p) ≡ None) × (b .0 ≡ final at c) × (e : ℕ) × (answer AfterBlock bs p ≡ Ok (Some (e, command.EndTask))) × (b .1 ≡ after AfterBlock bs p))
+    ⊎ ((t m : ℕ) × (b′ : Blocks) × (pointOf (answer AfterBlock bs p) ≡ Some (t, m)) × (blocksFrom bs n (count + 1) (after AfterBlock bs p) ≡ Ok (b′, b .1)) × (b .0 ≡ block at c t m b′) × (e : ℕ) × (answer AfterBlock bs p ≡ Ok (Some (e, command.Point t m))))
 
 pub record First-block (bs : List ℕ) (n count place : ℕ) (b : Blocks × ℕ) : Type 0 where
   pub at : ℕ
   pub code : ℕ
   pub reads : blockOf (answer BlockDue bs place) ≡ Some (head code at)
+  pub command-is : answer BlockDue bs place ≡ Ok (Some (at, command.Block code))
   pub few : count < 64
   pub follows : Followed bs n count (after BlockDue bs place) at code b
 
@@ -93,10 +94,12 @@ followed bs n count p at c b (Ok (Some k)) e h =
       ap pointOf e ∙ ap (byCommand _ _ _ _ _ _) (x .2),
       w .1 ∙ ap (λ m. Ok (w .0 .0, m)) (ap (λ (y : Blocks × ℕ). y .1) same),
       sym (ap (λ (y : Blocks × ℕ). y .0) same),
+      k .0,
+      e ∙ ap (λ y. Ok (Some (k .0, y))) (x .2),
     ))
     (λ x.
     let same : (final at c, after AfterBlock bs p) ≡ b = let h = x .1 in cc in
-    inl (ap pointOf e ∙ ap (byCommand _ _ _ _ _ _) (x .0), sym (ap (λ (y : Blocks × ℕ). y .0) same)))
+    inl (ap pointOf e ∙ ap (byCommand _ _ _ _ _ _) (x .0), sym (ap (λ (y : Blocks × ℕ). y .0) same), k .0, e ∙ ap (λ y. Ok (Some (k .0, y))) (x .0), sym (ap (λ (y : Blocks × ℕ). y .1) same)))
     (follower-cmd (k .1) _ _ _ b h)
 
 first-by : (bs : List ℕ) (n count place : ℕ) (b : Blocks × ℕ) (r : Result (Option (ℕ × Command)) ReadFault) → answer BlockDue bs place ≡ r → onward bs (a-block bs count (blocksFrom bs n (count + 1)) (after BlockDue bs place)) r ≡ Ok b → First-block bs n count place b
@@ -111,6 +114,7 @@ first-by bs n count place b (Ok (Some k)) e h =
       at = k .0;
       code = x .0;
       reads = ap blockOf e ∙ ap (byCommand _ _ _ _ _ _) (x .1);
+      command-is = e ∙ ap (λ y. Ok (Some (k .0, y))) (x .1);
       few = leb-false 64 count few;
       follows = followed bs n count (after BlockDue bs place) (k .0) (x .0) b _ refl (sym (cond-false _ _ _ few) ∙ x .2);
     })

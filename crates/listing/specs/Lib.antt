@@ -12,3 +12,4 @@ pub mod Costing
 pub mod Costed
 pub mod Loading
 pub mod Reach
+pub mod Encoding
