@@ -13,3 +13,4 @@ pub mod Costed
 pub mod Loading
 pub mod Reach
 pub mod Encoding
+pub mod Worked

@@ -19,6 +19,7 @@ ghost use Rattle.listing.specs.Cycles.{entry, Tabled, Wide};
 ghost use Rattle.listing.specs.Costing.{tableOf, unknownIn, cycleFrom, dearFrom, costBy, costIn, callsIn, TableTold, costing};
 ghost use Rattle.listing.specs.Costed.{costTold, costsOf};
 ghost use Rattle.listing.specs.Reach.{CycleTold};
+ghost use Rattle.listing.specs.Worked.{Worked};
 use crate::blocks::marked_block;
 use crate::blocks::unlisted;
 use crate::calls::Calls;
@@ -157,4 +158,11 @@ pub fn cost(bytes: &[u8]) -> Result<Costs, CostFault>
         });
     }
     Ok(Costs { outline, by_code })
+}
+
+// Two worked costs, as a fact over the definitions.
+pub fn worked_costs() -> u8
+    ensures { λ _. ⌜ Worked ⌝ }
+{
+    0
 }
