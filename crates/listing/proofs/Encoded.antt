@@ -8,9 +8,9 @@ use native.Mathlib.Nat.{zero-add, add-mul-mod-self-left, add-mul-div-left, mod-e
 use native.Mathlib.Numerals.{one-add}
 use native.Mathlib.Omega.{arith}
 use lib.Dec.{eqb, ltb, lit<}
-use lib.ListN.{length, getD, drop, take, length-drop}
+use lib.ListN.{length, drop, take, length-drop}
 use Rattle.std.proofs.shelf.Lists.{drop-drop, drop-all}
-use Rattle.std.proofs.shelf.Elements.{all-drop, all-from-getD}
+use Rattle.std.proofs.shelf.Elements.{all-drop}
 use Rattle.std.proofs.shelf.Tests.{cases-bool, cond-true, cond-false, eqb-true, both-ways}
 use Rattle.std.specs.shelf.Lists.{All}
 use Rattle.std.specs.declared.option.Option.{Option}
@@ -28,13 +28,12 @@ use Rattle.listing.specs.declared.table.Command.the-variants as command
 use Rattle.listing.specs.declared.table.Context.{Context}
 use Rattle.listing.specs.declared.table.Context.the-variants.{Top, Tasks, Body, BlockDue, AfterBlock}
 use Rattle.listing.specs.declared.heads.Head.{Head}
-use Rattle.listing.specs.declared.outline.Outline.{Outline}
 use Rattle.listing.specs.Commands.{rows, rowOf, rowIn, allows, allowed, low, widthOf, numbersOf, within, commandOf, Front, short, range, a as a-command, byNumbers, byRow, decode, answered, answer, after}
 use Rattle.listing.specs.Heads.{head}
 use Rattle.listing.specs.Trees.{Item, work, call, either, repeat, Run, done, next, Arms, one, more, Routine, Blocks, final, block, Task, Listing}
 use Rattle.listing.specs.Runs.{Ended, then, runAt}
-use Rattle.listing.specs.Listings.{more-routines, routine-turn, routinesFrom, more-tasks, task-turn, tasksFrom, blocksFrom, tasks-then, listing, told, outlineOf}
-use Rattle.listing.specs.Encoding.{write, encItem, encRun, encArms, encRoutines, encBlocks, encTasks, encode, Encodes}
+use Rattle.listing.specs.Listings.{more-routines, routine-turn, routinesFrom, more-tasks, task-turn, tasksFrom, blocksFrom, tasks-then, listing}
+use Rattle.listing.specs.Encoding.{write, encItem, encRun, encArms, encRoutines, encBlocks, encTasks, encode}
 use Rattle.listing.proofs.Decoded.{here, stays}
 use Rattle.listing.proofs.Rows.{allowed-row}
 use Rattle.listing.proofs.Inverted.{Written, read-written}
@@ -263,10 +262,3 @@ module _ (bs : List ℕ) (all : Bytes bs) where
       let same : record { routines = rs .0; tasks = v .0 .0 } ≡ l = let h = v .2 in cc in
       routines-bytes (suc (length bs)) [] 0 rs (w .1) ∙ ap (encRoutines (rs .0)) (tasks-bytes (suc (length bs)) [] (rs .1) (v .0) (v .1)) ∙ ap encode same)
       (cases-bool (ltb 32768 (length bs)))
-
-encodes-by : (bs : List ℕ) → Bytes bs → (o : Outline) (r : Result Listing ReadFault) → listing bs ≡ r → told (Ok o) ≡ outlineOf r → Encodes bs (Ok o)
-encodes-by bs all o (Ok l) e t = (l, e, accepted bs all l e)
-encodes-by bs all o (Err f) e t = let z : _≡_ {A = ℕ} 0 1 = cc in absurd (omega arith)
-
-pub encodes : (bs : List ℕ) → ((i : ℕ) → getD bs i 0 < 256) → (o : Outline) → told (Ok o) ≡ outlineOf (listing bs) → Encodes bs (Ok o)
-encodes bs small o t = encodes-by bs (all-from-getD (λ b. b < 256) bs 0 (λ i _. small i)) o (listing bs) refl t

@@ -57,7 +57,7 @@ inside : {X : Type 0} {x y : X} → _≡_ {A = Result X ReadFault} (Ok x) (Ok y)
 inside e = cc
 
 -- by how an arm ended
-arm-by : {X : Type 0} (c : Command) (o e : Result X ReadFault) (f : ReadFault) (x : X) → byLast o e (Err f) (Err f) (Err f) c ≡ Ok x → ((c ≡ Or) × (o ≡ Ok x)) ⊎ ((c ≡ EndEither) × (e ≡ Ok x))
+pub arm-by : {X : Type 0} (c : Command) (o e : Result X ReadFault) (f : ReadFault) (x : X) → byLast o e (Err f) (Err f) (Err f) c ≡ Ok x → ((c ≡ Or) × (o ≡ Ok x)) ⊎ ((c ≡ EndEither) × (e ≡ Ok x))
 arm-by (Routine n) o e f x h = never h
 arm-by (Work n) o e f x h = never h
 arm-by (Call n) o e f x h = never h
@@ -73,7 +73,7 @@ arm-by (Point n m) o e f x h = never h
 arm-by EndTask o e f x h = never h
 arm-by Sheet o e f x h = never h
 
-repeat-by : {X : Type 0} (c : Command) (r : Result X ReadFault) (f : ReadFault) (x : X) → byLast (Err f) (Err f) r (Err f) (Err f) c ≡ Ok x → (c ≡ EndRepeat) × (r ≡ Ok x)
+pub repeat-by : {X : Type 0} (c : Command) (r : Result X ReadFault) (f : ReadFault) (x : X) → byLast (Err f) (Err f) r (Err f) (Err f) c ≡ Ok x → (c ≡ EndRepeat) × (r ≡ Ok x)
 repeat-by (Routine n) r f x h = never h
 repeat-by (Work n) r f x h = never h
 repeat-by (Call n) r f x h = never h

@@ -1,13 +1,6 @@
 -- The bytes of a tree. Assumes nothing.
 use mathlib.Core.List.{List, [], _∷_}
-use mathlib.Core.Path.{_≡_}
-use Prim.Native.Nat.{ℕ, zero, suc, _/_, _%_, _<_}
-use lib.ListN.{length}
-use Rattle.std.specs.declared.result.Result.{Result}
-use Rattle.std.specs.declared.result.Result.the-variants.{Ok, Err}
-use Rattle.listing.specs.declared.fault.ReadFault.{ReadFault}
-use Rattle.listing.specs.declared.outline.Outline.{Outline}
-use Rattle.listing.specs.Listings.{listing}
+use Prim.Native.Nat.{ℕ, zero, suc, _/_, _%_}
 use Rattle.listing.specs.Trees.{Item, work, call, either, repeat, Run, done, next, Arms, one, more, Routine, Blocks, final, block, Task, Listing}
 
 -- a number in so many bytes, low byte first, and then what comes after
@@ -45,8 +38,3 @@ encTasks (t ∷ ts) after = 0x30 ∷ write 1 (t .code) (write 4 (t .period) (wri
 -- the bytes of a listing
 abbrev pub encode : Listing → List ℕ
 encode l = encRoutines (l .routines) (encTasks (l .tasks) [])
-
--- bytes that are accepted are those of the tree that they are read as
-abbrev pub Encodes : List ℕ → Result Outline ReadFault → Type 0
-Encodes bs (Ok o) = (l : Listing) × (listing bs ≡ Ok l) × (bs ≡ encode l)
-Encodes bs (Err f) = Unit {0}

@@ -14,3 +14,4 @@ pub mod Loading
 pub mod Reach
 pub mod Encoding
 pub mod Worked
+pub mod Fitting

@@ -5,7 +5,7 @@ ghost use Prim.Native.Nat.{ℕ, suc, _+_, _<_, _≤_};
 ghost use lib.ListN.{length};
 ghost use Rattle.std.specs.Vec.{made};
 ghost use Rattle.listing.specs.Heads.{held};
-ghost use Rattle.listing.specs.Encoding.{Encodes};
+ghost use Rattle.listing.specs.Fitting.{Accepted};
 ghost use Rattle.listing.specs.Listings.{routinesFrom, tasksFrom, blocksFrom, listing, outlineOf, told, routineHeads, taskHeads, headsAt, blocksEnd, endAt};
 use crate::fault::ReadFault;
 use crate::heads::Head;
@@ -105,7 +105,7 @@ fn read_tasks(reader: &mut Reader) -> Result<Heads, ReadFault>
 // Reads a listing: the first fault in it, or the heads of its routines and tasks.
 pub fn read(bytes: &[u8]) -> Result<Outline, ReadFault>
     ensures told { λ r. ⌜ told r ≡ outlineOf (listing (now (bytes .entry))) ⌝ }
-    ensures encodes { λ r. ⌜ Encodes (now (bytes .entry)) r ⌝ }
+    ensures accepted { λ r. ⌜ Accepted (now (bytes .entry)) r ⌝ }
 {
     if bytes.len() > LONGEST {
         return Err(ReadFault::TooLong);
