@@ -10,7 +10,7 @@ use native.Mathlib.Omega.{arith}
 use lib.Dec.{eqb, leb, ltb, lit<}
 use lib.ListN.{length, drop, take, length-drop, length-append}
 use borrow.Author.Tests.{le-leb, le-ltb, lt-leb}
-use Rattle.std.proofs.shelf.Lists.{drop-drop, length-map, map-append}
+use Rattle.std.proofs.shelf.Lists.{drop-drop, length-map}
 use Rattle.std.proofs.shelf.Tests.{cond-true, cond-false, and-from}
 use Rattle.std.specs.declared.option.Option.{Option}
 use Rattle.std.specs.declared.option.Option.the-variants.{Some, None}
@@ -31,6 +31,7 @@ use Rattle.listing.specs.Trees.{Item, work, call, either, repeat, Run, done, n
 use Rattle.listing.specs.Runs.{Ended, Parsed, Armed, then, byLast, ends, more-arms, armsBy, an-either, a-repeat, itemBy, more-items, turn, runWith, runAt}
 use Rattle.listing.specs.Listings.{byCommand, onward, admit, closed, more-routines, routine-turn, routinesFrom, more-blocks, after-block, a-block, blocksFrom, more-tasks, task-turn, tasksFrom, tasks-then, listing}
 use Rattle.listing.specs.Encoding.{write, encItem, encRun, encArms, encRoutines, encBlocks, encTasks, encode}
+use Rattle.listing.proofs.Codes.{codes, used-is, codes-push}
 use Rattle.listing.specs.Fitting.{FitsItem, FitsRun, FitsArms, nestItem, nestRun, nestArms, member, FitsRoutines, FitsBlocks, FitsTasks, Fits}
 
 -- numbers that are written are read back
@@ -330,20 +331,7 @@ module _ (bs : List ℕ) where
         omega (arith, g .on, h .on, r .3),
       )
 
-  codes : List Head → List ℕ
-  codes = map (λ (h : Head). h .code)
-
-  used-is : (c : ℕ) (hs : List Head) → used c hs ≡ member c (codes hs)
-  unfolding codes
-  used-is c [] = refl
-  used-is c (h ∷ hs) = ap (cond (eqb (h .code) c) true) (used-is c hs)
-
-  codes-push : (hs : List Head) (h : Head) → codes (hs ++ h ∷ []) ≡ codes hs ++ h .code ∷ []
-  unfolding codes
-  codes-push hs h = map-append (λ (x : Head). x .code) hs (h ∷ [])
-
   let-in : {X : Type 0} (c at : ℕ) (hs : List Head) (r : Result X ReadFault) → member c (codes hs) ≡ false → length (codes hs) < 32 → admit c at hs r ≡ r
-  unfolding codes
   let-in c at hs r new few = cond-false _ _ _ (used-is c hs ∙ new) ∙ cond-false _ _ _ (lt-leb _ _ (subst (λ n. n < 32) (length-map hs (λ (x : Head). x .code)) few))
 
   nothing-left : (context : Context) (p : ℕ) → drop p bs ≡ [] → answer context bs p ≡ Ok None
@@ -376,7 +364,7 @@ module _ (bs : List ℕ) where
       ap (routine-turn bs hs (routinesFrom bs n) p (after Top bs p)) (g .reads)
 
   routines-took : (rs : List Routine) (ts : List Task) (n : ℕ) (hs : List Head) (p : ℕ) → FitsTasks [] ts → FitsRoutines (codes hs) rs → drop p bs ≡ encRoutines rs (encTasks ts []) → length bs ≤ p + n → (x : List Routine × ℕ) × (routinesFrom bs (suc n) hs p ≡ Ok x) × (drop (x .1) bs ≡ encTasks ts [])
-  unfolding routinesFrom codes
+  unfolding routinesFrom
   routines-took [] ts n hs p k f e long = (([], p), past ts p hs [] n k e, e)
   routines-took (r ∷ rs) ts n hs p k f e long =
       let tail = encRoutines rs (encTasks ts []) in
@@ -393,7 +381,7 @@ module _ (bs : List ℕ) where
 
 -- the bytes of a tree that fits are accepted
 pub accepts : (l : Listing) → Fits l → (m : Listing) × (listing (encode l) ≡ Ok m)
-unfolding listing codes
+unfolding listing
 accepts l f =
     let bs = encode l in
     let r = routines-took bs (l .routines) (l .tasks) (length bs) [] 0 (f .1) (f .0) refl (omega arith) in

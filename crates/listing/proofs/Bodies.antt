@@ -7,7 +7,7 @@ use Prim.Native.Nat.{ℕ, zero, suc, _+_, _<_, _≤_}
 use native.Mathlib.Omega.{arith}
 use lib.Dec.{leb}
 use lib.ListN.{length}
-use Rattle.std.proofs.shelf.Tests.{cases-bool, cond-true, cond-false}
+use Rattle.std.proofs.shelf.Tests.{cases-bool, cond-true, cond-false, leb-false}
 use Rattle.std.specs.shelf.Lists.{All}
 use Rattle.std.specs.declared.option.Option.{Option}
 use Rattle.std.specs.declared.option.Option.the-variants.{Some, None}
@@ -30,16 +30,16 @@ use Rattle.listing.proofs.Spelled.{went}
 use Rattle.listing.proofs.Stepped.{refused}
 
 -- what went on past the tests of a code
-pub admitted : {X : Type 0} (c at : ℕ) (seen : List Head) (more : Result X ReadFault) (x : X) → admit c at seen more ≡ Ok x → more ≡ Ok x
-admitted c at seen more x e =
+pub admitted : {X : Type 0} (c at : ℕ) (seen : List Head) (rest : Result X ReadFault) (x : X) → admit c at seen rest ≡ Ok x → (used c seen ≡ false) × (length seen < 32) × (rest ≡ Ok x)
+admitted c at seen rest x e =
     ⊎-elim
     (λ bad. refused (sym (cond-true _ _ _ bad) ∙ e))
     (λ new.
-    let f = sym (cond-false (used c seen) (Err (CodeUsed at)) (cond (leb 32 (length seen)) (Err (TooMany at)) more) new) ∙ e in
-    ⊎-elim (λ bad. refused (sym (cond-true _ _ _ bad) ∙ f)) (λ few. sym (cond-false (leb 32 (length seen)) (Err (TooMany at)) more few) ∙ f) (cases-bool (leb 32 (length seen))))
+    let f = sym (cond-false (used c seen) (Err (CodeUsed at)) (cond (leb 32 (length seen)) (Err (TooMany at)) rest) new) ∙ e in
+    ⊎-elim (λ bad. refused (sym (cond-true _ _ _ bad) ∙ f)) (λ few. (new, leb-false 32 (length seen) few, sym (cond-false (leb 32 (length seen)) (Err (TooMany at)) rest few) ∙ f)) (cases-bool (leb 32 (length seen))))
     (cases-bool (used c seen))
 
-inside : {X : Type 0} {x y : X} → _≡_ {A = Result X ReadFault} (Ok x) (Ok y) → x ≡ y
+pub inside : {X : Type 0} {x y : X} → _≡_ {A = Result X ReadFault} (Ok x) (Ok y) → x ≡ y
 inside e = cc
 
 -- the command that went on: a routine or none; a task; the end of a routine
@@ -100,7 +100,7 @@ module _ (bs : List ℕ) where
       (λ x. subst (λ (y : List Routine × ℕ). All (Body-read bs) (y .0)) (inside x) tt)
       (λ x.
       let at-p : c .0 ≡ p = here Top bs p (c .0) (c .1) a in
-      let w = went _ (runAt 9 bs (c .0) (after Top bs p)) rs (admitted (x .0) (c .0) seen _ rs (x .2)) in
+      let w = went _ (runAt 9 bs (c .0) (after Top bs p)) rs (admitted (x .0) (c .0) seen _ rs (x .2) .2) in
       let e : Ended = w .0 in
       let k = closed-cmd (e .last) _ _ rs (w .2) in
       let v = went (more-routines (x .0) (c .0) (e .run)) _ rs (k .1) in
@@ -128,7 +128,7 @@ module _ (bs : List ℕ) where
   task-read n more seen p ts (Ok (Some c)) a h =
       let x = task-cmd (c .1) _ _ ts h in
       let at-p : c .0 ≡ p = here Tasks bs p (c .0) (c .1) a in
-      let w = went _ (blocksFrom bs (suc (length bs)) 0 (after Tasks bs p)) ts (admitted (x .0) (c .0) seen _ ts (x .4)) in
+      let w = went _ (blocksFrom bs (suc (length bs)) 0 (after Tasks bs p)) ts (admitted (x .0) (c .0) seen _ ts (x .4) .2) in
       let b : Blocks × ℕ = w .0 in
       let v = went (more-tasks (x .0) (c .0) (x .1) (x .2) (b .0)) _ ts (w .2) in
       let rest = more _ _ (v .0) (v .1) in

@@ -6,11 +6,8 @@ use Prim.Native.Nat.{ℕ, zero, suc, _+_, _<_, _≤_}
 use native.Mathlib.Numerals.{add-one}
 use native.Mathlib.Omega.{arith}
 use lib.ListN.{length, getD}
+use Rattle.listing.proofs.Noted.{or-false}
 use Rattle.listing.specs.Cycles.{Table, entry, through, closed, Tabled, Row-says, Wide}
-
-or-false : (b : Bool) → (b || false) ≡ b
-or-false true = refl
-or-false false = refl
 
 -- a routine that does not reach the one to go through keeps its row
 pub keeps : (rows : List (List Bool)) (i k code : ℕ) → i < 32 → Wide rows → entry rows i code ≡ false → Row-says (getD rows i []) (through (entry rows) k code i)

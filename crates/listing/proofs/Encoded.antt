@@ -39,7 +39,7 @@ use Rattle.listing.proofs.Rows.{allowed-row}
 use Rattle.listing.proofs.Inverted.{Written, read-written}
 use Rattle.listing.proofs.Spelled.{Cmd, ReadsItem, ReadsRun, ReadsArms, Reads, run-reads, went}
 use Rattle.listing.proofs.Stepped.{refused, nothing, First-block, first-block}
-use Rattle.listing.proofs.Bodies.{admitted, routine-cmd, task-cmd, closed-cmd}
+use Rattle.listing.proofs.Bodies.{admitted, inside, routine-cmd, task-cmd, closed-cmd}
 
 abbrev Bytes : List ℕ → Type 0
 Bytes = All (λ b. b < 256)
@@ -204,9 +204,6 @@ module _ (bs : List ℕ) (all : Bytes bs) where
       ∙ ap (λ z. encBlocks z (drop (b .1) bs)) (sym (x .5)))
       (f .follows)
 
-  inside : {X : Type 0} {x y : X} → _≡_ {A = Result X ReadFault} (Ok x) (Ok y) → x ≡ y
-  inside e = cc
-
   routine-bytes : (n : ℕ) → ((seen : List Head) (p : ℕ) (rs : List Routine × ℕ) → routinesFrom bs n seen p ≡ Ok rs → drop p bs ≡ encRoutines (rs .0) (drop (rs .1) bs)) → (seen : List Head) (p : ℕ) (rs : List Routine × ℕ) (r : Result (Option (ℕ × Command)) ReadFault) → answer Top bs p ≡ r → routine-turn bs seen (routinesFrom bs n) p (after Top bs p) r ≡ Ok rs → drop p bs ≡ encRoutines (rs .0) (drop (rs .1) bs)
   routine-bytes n ih seen p rs (Ok None) a h = ap (λ (x : List Routine × ℕ). encRoutines (x .0) (drop (x .1) bs)) (inside h)
   routine-bytes n ih seen p rs (Err f) a h = refused h
@@ -214,7 +211,7 @@ module _ (bs : List ℕ) (all : Bytes bs) where
       ⊎-elim
       (λ x. ap (λ (y : List Routine × ℕ). encRoutines (y .0) (drop (y .1) bs)) (inside x))
       (λ x.
-      let w = went _ (runAt 9 bs (c .0) (after Top bs p)) rs (admitted (x .0) (c .0) seen _ rs (x .2)) in
+      let w = went _ (runAt 9 bs (c .0) (after Top bs p)) rs (admitted (x .0) (c .0) seen _ rs (x .2) .2) in
       let e : Ended = w .0 in
       let k = closed-cmd (e .last) _ _ rs (w .2) in
       let v = went (more-routines (x .0) (c .0) (e .run)) _ rs (k .1) in
@@ -236,7 +233,7 @@ module _ (bs : List ℕ) (all : Bytes bs) where
   task-bytes n ih seen p ts (Err f) a h = refused h
   task-bytes n ih seen p ts (Ok (Some c)) a h =
       let x = task-cmd (c .1) _ _ ts h in
-      let w = went _ (blocksFrom bs (suc (length bs)) 0 (after Tasks bs p)) ts (admitted (x .0) (c .0) seen _ ts (x .4)) in
+      let w = went _ (blocksFrom bs (suc (length bs)) 0 (after Tasks bs p)) ts (admitted (x .0) (c .0) seen _ ts (x .4) .2) in
       let b : Blocks × ℕ = w .0 in
       let v = went (more-tasks (x .0) (c .0) (x .1) (x .2) (b .0)) _ ts (w .2) in
       let start = cmd-bytes Tasks p (c .0) (command.Task (x .0) (x .1) (x .2)) (a ∙ ap (λ y. Ok (Some (c .0, y))) (x .3)) in

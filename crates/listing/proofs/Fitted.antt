@@ -7,16 +7,15 @@ use Prim.Native.Nat.{ℕ, zero, suc, _+_, _<_, _≤_, max}
 use native.Mathlib.Omega.{arith}
 use lib.Dec.{eqb, leb, ltb}
 use lib.ListN.{length, getD, drop}
-use Rattle.std.proofs.shelf.Lists.{length-map, map-append}
+use Rattle.std.proofs.shelf.Lists.{length-map}
 use Rattle.std.proofs.shelf.Elements.{all-from-getD}
 use Rattle.std.specs.shelf.Lists.{All}
-use Rattle.std.proofs.shelf.Tests.{cases-bool, cond-true, cond-false, leb-false, ltb-false}
+use Rattle.std.proofs.shelf.Tests.{cases-bool, cond-true, cond-false, ltb-false}
 use Rattle.std.specs.declared.option.Option.{Option}
 use Rattle.std.specs.declared.option.Option.the-variants.{Some, None}
 use Rattle.std.specs.declared.result.Result.{Result}
 use Rattle.std.specs.declared.result.Result.the-variants.{Ok, Err}
 use Rattle.listing.specs.declared.fault.ReadFault.{ReadFault}
-use Rattle.listing.specs.declared.fault.ReadFault.the-variants.{CodeUsed, TooMany}
 use Rattle.listing.specs.declared.table.Kind.{Kind}
 use Rattle.listing.specs.declared.table.Kind.the-variants as kind
 use Rattle.listing.specs.declared.table.Numbers.{Numbers}
@@ -29,7 +28,7 @@ use Rattle.listing.specs.Commands.{numbersOf, commandOf, answer, after}
 use Rattle.listing.specs.Heads.{head, used}
 use Rattle.listing.specs.Trees.{Item, work, call, either, repeat, Run, done, next, Arms, one, more, Routine, Blocks, final, block, Task, Listing}
 use Rattle.listing.specs.Runs.{Ended, Parsed, Armed, then, byLast, ends, more-arms, armsBy, an-either, a-repeat, itemBy, more-items, turn, runWith, runAt}
-use Rattle.listing.specs.Listings.{admit, more-routines, routine-turn, routinesFrom, more-tasks, task-turn, tasksFrom, blocksFrom, tasks-then, listing, told, outlineOf}
+use Rattle.listing.specs.Listings.{more-routines, routine-turn, routinesFrom, more-tasks, task-turn, tasksFrom, blocksFrom, tasks-then, listing, told, outlineOf}
 use Rattle.listing.specs.Encoding.{encode}
 use Rattle.listing.specs.Fitting.{FitsItem, FitsRun, FitsArms, nestItem, nestRun, nestArms, member, FitsRoutines, FitsBlocks, FitsTasks, Fits, Accepted}
 use Rattle.listing.specs.declared.outline.Outline.{Outline}
@@ -39,7 +38,8 @@ use Rattle.listing.proofs.Rows.{Ranged, ranged}
 use Rattle.listing.proofs.Inverted.{Written, read-written, small-routine, small-block, task-ranges}
 use Rattle.listing.proofs.Spelled.{Cmd, ReadsItem, ReadsRun, ReadsArms, Reads, run-reads, went, arm-by, repeat-by}
 use Rattle.listing.proofs.Stepped.{refused, First-block, first-block}
-use Rattle.listing.proofs.Bodies.{routine-cmd, task-cmd, closed-cmd}
+use Rattle.listing.proofs.Codes.{codes, used-is, codes-push}
+use Rattle.listing.proofs.Bodies.{admitted, inside, routine-cmd, task-cmd, closed-cmd}
 
 work-kind : (k : Kind) (n : Numbers) (t : ℕ) → commandOf k n ≡ command.Work t → Ranged k n → t ≤ 1000000
 work-kind kind.Routine n t e r = let z : _≡_ {A = ℕ} 0 1 = cc in absurd (omega arith)
@@ -143,9 +143,6 @@ module _ (bs : List ℕ) where
     arms-fit (one b) p q r = run-fits b p (r .0) (r .1)
     arms-fit (more b c) p q r = (run-fits b p (r .0) (r .2), arms-fit c (r .1) q (r .4))
 
-inside : {X : Type 0} {x y : X} → _≡_ {A = Result X ReadFault} (Ok x) (Ok y) → x ≡ y
-inside e = cc
-
 -- eithers and repeats are nested no deeper than is allowed
 module _ (bs : List ℕ) (d : ℕ) (inner : (opener p : ℕ) (e : Ended) → runAt d bs opener p ≡ Ok e → nestRun (e .run) < d) where
   arms-nest : (n at p : ℕ) (q : Armed) → armsBy (runAt d bs at) bs n p ≡ Ok q → nestArms (q .arms) < d
@@ -210,26 +207,6 @@ unfolding runAt
 run-nests zero bs opener p e h = refused h
 run-nests (suc d) bs opener p e h = let x = with-nests bs d (run-nests d bs) (suc (length bs)) p e h in omega arith
 
--- what was admitted
-admitted-so : {X : Type 0} (c at : ℕ) (seen : List Head) (rest : Result X ReadFault) (x : X) → admit c at seen rest ≡ Ok x → (used c seen ≡ false) × (length seen < 32) × (rest ≡ Ok x)
-admitted-so c at seen rest x e =
-    ⊎-elim
-    (λ bad. refused (sym (cond-true _ _ _ bad) ∙ e))
-    (λ new.
-    let f = sym (cond-false (used c seen) (Err (CodeUsed at)) (cond (leb 32 (length seen)) (Err (TooMany at)) rest) new) ∙ e in
-    ⊎-elim (λ bad. refused (sym (cond-true _ _ _ bad) ∙ f)) (λ few. (new, leb-false 32 (length seen) few, sym (cond-false (leb 32 (length seen)) (Err (TooMany at)) rest few) ∙ f)) (cases-bool (leb 32 (length seen))))
-    (cases-bool (used c seen))
-
-abbrev codes : List Head → List ℕ
-codes = map (λ (h : Head). h .code)
-
-used-is : (c : ℕ) (hs : List Head) → used c hs ≡ member c (codes hs)
-used-is c [] = refl
-used-is c (h ∷ hs) = ap (cond (eqb (h .code) c) true) (used-is c hs)
-
-codes-push : (hs : List Head) (h : Head) → codes (hs ++ h ∷ []) ≡ codes hs ++ h .code ∷ []
-codes-push hs h = map-append (λ (x : Head). x .code) hs (h ∷ [])
-
 module _ (bs : List ℕ) where
   blocks-fit : (n count p : ℕ) (b : Blocks × ℕ) → blocksFrom bs n count p ≡ Ok b → FitsBlocks count (b .0)
   unfolding blocksFrom
@@ -253,7 +230,7 @@ module _ (bs : List ℕ) where
       ⊎-elim
       (λ x. subst (λ (y : List Routine × ℕ). FitsRoutines (codes seen) (y .0)) (inside x) tt)
       (λ x.
-      let k = admitted-so (x .0) (c .0) seen _ rs (x .2) in
+      let k = admitted (x .0) (c .0) seen _ rs (x .2) in
       let w = went _ (runAt 9 bs (c .0) (after Top bs p)) rs (k .2) in
       let e : Ended = w .0 in
       let j = closed-cmd (e .last) _ _ rs (w .2) in
@@ -278,7 +255,7 @@ module _ (bs : List ℕ) where
   task-fits n ih seen p ts (Err f) q h = refused h
   task-fits n ih seen p ts (Ok (Some c)) q h =
       let x = task-cmd (c .1) _ _ ts h in
-      let k = admitted-so (x .0) (c .0) seen _ ts (x .4) in
+      let k = admitted (x .0) (c .0) seen _ ts (x .4) in
       let w = went _ (blocksFrom bs (suc (length bs)) 0 (after Tasks bs p)) ts (k .2) in
       let b : Blocks × ℕ = w .0 in
       let v = went (more-tasks (x .0) (c .0) (x .1) (x .2) (b .0)) _ ts (w .2) in

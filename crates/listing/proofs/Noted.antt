@@ -41,7 +41,7 @@ no-call (Point n m) f e x h i = refl
 no-call EndTask f e x h i = refl
 no-call Sheet f e x h i = refl
 
-or-false : (b : Bool) → (b || false) ≡ b
+pub or-false : (b : Bool) → (b || false) ≡ b
 or-false true = refl
 or-false false = refl
 

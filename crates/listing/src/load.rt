@@ -43,18 +43,21 @@ fn load_parts(
 ) -> Result<Parts, LoadFault>
     ensures { λ r. ⌜ ((b : Blocks) (q : ℕ) → blocksFrom (now (bytes .entry)) (suc (length (now (bytes .entry)))) 0 place ≡ Ok (b, q) → Priced (byCode (now (costs .entry))) b → BodyTold (byCode (now (costs .entry))) b r) ⌝ }
 {
-    let mut blocks = Vec::new(heap);
+    let mut records = Vec::new(heap);
     let mut points = Vec::new(heap);
     let mut reader = Reader { bytes, at: place };
     'steps: loop {
         let Some(head) = reader.block() else {
             return Err(strayed(place));
         };
-        blocks.push(Block {
+        records.push(Block {
             cost: costs[head.code as usize],
         })?;
         let Some((ticks, charge)) = reader.point() else {
-            return Ok(Parts { blocks, points });
+            return Ok(Parts {
+                blocks: records,
+                points,
+            });
         };
         let Ok(point) = Point::new(ticks, charge) else {
             return Err(strayed(place));

@@ -16,7 +16,7 @@ use Rattle.listing.proofs.Built.{Building, building, no-block, last-block, one
 use Rattle.listing.proofs.load.load_parts.Needs as need
 
 pub steps-holds : need.steps-holds
-steps-holds c = (refl, λ b q e p. building _ _ b q _ _ _ (c .new-blocks .ensures .items) (c .new-points .ensures .items) e p)
+steps-holds c = (refl, λ b q e p. building _ _ b q _ _ _ (c .new-records .ensures .items) (c .new-points .ensures .items) e p)
 
 pub returns-in-rest : need.returns-in-rest
 returns-in-rest c b q e p =
@@ -60,7 +60,7 @@ steps-again c =
       m .same ∙ n .same ∙ bs,
       λ b q e p.
           subst (λ l. Building bs-now of b l (vec-items (c .push-in-steps .last .self)) (c .point .last .self .at)) (sym (c .in-Continue-push .ensures tt .items))
-          (subst (λ l. Building bs-now of b (vec-items (c .steps .blocks) ++ record { cost = getD (c .args .costs .now) (c .in-Some .head .code) 0 } ∷ []) l (c .point .last .self .at)) (sym (c .in-Continue-push-2 .ensures tt .items))
+          (subst (λ l. Building bs-now of b (vec-items (c .steps .records) ++ record { cost = getD (c .args .costs .now) (c .in-Some .head .code) 0 } ∷ []) l (c .point .last .self .at)) (sym (c .in-Continue-push-2 .ensures tt .items))
           (one-more _ _ _ _ _ _ (c .steps .inv .1 b q e p) (c .in-Some .head) is (record { cost = getD (c .args .costs .now) (c .in-Some .head .code) 0 }) refl (c .in-Some-point .ticks) (c .in-Some-point .charge) (c .in-Ok .point) (c .point .last .self .at) then (c .in-Ok .ensures tt .made .0) (c .in-Ok .ensures tt .made .1)
           (m .moved ∙ (λ i. after AfterBlock ((n .same ∙ bs) i) (on i))) (omega arith) (omega arith))),
     )
