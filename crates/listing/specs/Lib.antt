@@ -1,0 +1,17 @@
+pub mod Faults
+pub mod Commands
+pub mod Heads
+pub mod Trees
+pub mod Runs
+pub mod Listings
+pub mod Calls
+pub mod Cycles
+pub mod Steps
+pub mod Bodies
+pub mod Costing
+pub mod Costed
+pub mod Loading
+pub mod Reach
+pub mod Encoding
+pub mod Worked
+pub mod Fitting
