@@ -37,6 +37,11 @@ use Rattle.listing.specs.Steps.{firstMarked, markedIn, orNext}
 use Rattle.listing.specs.Costing.{callLists, blockLists, unknownIn, reachTable, cycleFrom, dearFrom, costBy, costIn, unless, judged, judgedAfter, costing}
 use Rattle.listing.specs.Costed.{costsOf}
 use Rattle.listing.specs.Loading.{Is, Are, Priced, blockCosts, freeMarks, unlessFree, loadedAfter, loading, TasksTold, LoadTold}
+use Rattle.std.proofs.shelf.Elements.{all-from-getD}
+use Rattle.listing.specs.Encoding.{encode}
+use Rattle.listing.specs.Reach.{True-costs, CycleTold}
+use Rattle.listing.proofs.Encoded.{accepted}
+use Rattle.listing.proofs.Fitted.{read-fits}
 use Rattle.listing.proofs.Stepped.{nothing}
 use Rattle.listing.proofs.Judged.{listing-parts, small-blocks, none-dear}
 
@@ -184,8 +189,21 @@ module _ (bs : List ℕ) (k : Costs) (x : Costed bs k) where
       unfolding of
       true-tasks xs a = same-tasks bs (byCode (k .«by_code»)) (costIn (x .it .routines) 32) xs (x .it .tasks) table-is tasks-read a
 
-      pub finish : {Z : Type 0} (r : Result (Vec HeldTask Z) LoadFault) → TasksTold (byCode (k .«by_code»)) (x .it .tasks) r → LoadTold r (loading bs)
-      finish (Ok v) t = (x .it, loads, true-tasks (vec-items v) t)
-      finish (Err (Cost f)) t = let z : _≡_ {A = ℕ} 0 1 = cc in absurd (omega arith)
-      finish (Err (FreeBlock at c)) t = let z : _≡_ {A = ℕ} 0 1 = cc in absurd (omega arith)
-      finish (Err NoMemory) t = (x .it, loads)
+      same-tree : (m : Listing) → listing bs ≡ Ok m → m ≡ x .it
+      same-tree m e = let f : Ok m ≡ Ok (x .it) = sym e ∙ read-ok .0 in cc
+
+      pub finish : {Z : Type 0} (r : Result (Vec HeldTask Z) LoadFault) → ((i : ℕ) → getD bs i 0 < 256) → CycleTold bs (Ok k) → TasksTold (byCode (k .«by_code»)) (x .it .tasks) r → LoadTold bs r
+      finish (Ok v) small c t =
+          let b : bs ≡ encode (x .it) = accepted bs (all-from-getD (λ n. n < 256) bs 0 (λ i _. small i)) (x .it) (read-ok .0) in (
+            x .it,
+            loads,
+            record {
+              bytes = b;
+              fits = read-fits bs (x .it) (read-ok .0) b;
+              costs = subst (λ (m : Listing). True-costs (m .routines) (costIn (m .routines) 32)) (same-tree (c .0) (c .1)) (c .2 .costs);
+              tasks = true-tasks (vec-items v) t;
+            },
+          )
+      finish (Err (Cost f)) small c t = let z : _≡_ {A = ℕ} 0 1 = cc in absurd (omega arith)
+      finish (Err (FreeBlock at n)) small c t = let z : _≡_ {A = ℕ} 0 1 = cc in absurd (omega arith)
+      finish (Err NoMemory) small c t = (x .it, loads)

@@ -25,6 +25,9 @@ use Rattle.listing.specs.declared.heads.Head.{Head}
 use Rattle.listing.specs.Trees.{Blocks, final, block, Task, Listing, blockHeads}
 use Rattle.listing.specs.Steps.{markedIn}
 use Rattle.listing.specs.Costing.{costIn, costing}
+use Rattle.listing.specs.Encoding.{encode}
+use Rattle.listing.specs.Fitting.{Fits}
+use Rattle.listing.specs.Reach.{True-costs}
 
 -- the points between blocks: ticks and charge
 abbrev pub pointsOf : Blocks → List (ℕ × ℕ)
@@ -89,9 +92,16 @@ abbrev pub TasksTold : {Z : Type 0} → (ℕ → ℕ) → List Task → Result (
 TasksTold of ts (Ok v) = Are of (vec-items v) ts
 TasksTold of ts (Err f) = f ≡ NoMemory
 
--- what the public loading call tells: the tasks at their true costs, want of memory, or the fault
-abbrev pub LoadTold : {Z : Type 0} → Result (Vec HeldTask Z) LoadFault → Result Listing LoadFault → Type 0
-LoadTold (Ok v) s = (l : Listing) × (s ≡ Ok l) × Are (costIn (l .routines) 32) (vec-items v) (l .tasks)
-LoadTold (Err (Cost f)) s = s ≡ Err (Cost f)
-LoadTold (Err (FreeBlock at c)) s = s ≡ Err (FreeBlock at c)
-LoadTold (Err NoMemory) s = (l : Listing) × (s ≡ Ok l)
+-- a listing's tree, and its tasks as they are held: each block at its routine's true cost
+pub record Loaded (bs : List ℕ) (l : Listing) (held : List HeldTask) : Type 0 where
+  pub bytes : bs ≡ encode l
+  pub fits : Fits l
+  pub costs : True-costs (l .routines) (costIn (l .routines) 32)
+  pub tasks : Are (costIn (l .routines) 32) held (l .tasks)
+
+-- what the public loading call tells: the tasks, want of memory, or the fault
+abbrev pub LoadTold : {Z : Type 0} → List ℕ → Result (Vec HeldTask Z) LoadFault → Type 0
+LoadTold bs (Ok v) = (l : Listing) × (loading bs ≡ Ok l) × Loaded bs l (vec-items v)
+LoadTold bs (Err (Cost f)) = loading bs ≡ Err (Cost f)
+LoadTold bs (Err (FreeBlock at c)) = loading bs ≡ Err (FreeBlock at c)
+LoadTold bs (Err NoMemory) = (l : Listing) × (loading bs ≡ Ok l)

@@ -5,7 +5,7 @@ ghost use Prim.Native.Nat.{ℕ, suc, _+_, _<_, _≤_};
 ghost use lib.ListN.{length};
 ghost use Rattle.std.specs.declared.result.Result.the-variants.{Ok};
 ghost use Rattle.listing.specs.Listings.{blocksFrom, taskHead};
-ghost use Rattle.listing.specs.Loading.{Priced, BodyTold, TaskTold, TasksTold, LoadTold, loading};
+ghost use Rattle.listing.specs.Loading.{Priced, BodyTold, TaskTold, TasksTold, LoadTold};
 ghost use lib.Dec.{eqb};
 ghost use Rattle.std.specs.shelf.Lists.{All};
 ghost use Rattle.listing.specs.Bodies.{Task-read};
@@ -112,7 +112,7 @@ fn load_tasks(
 
 // Loads a listing: its tasks in order, each block at its routine's cost; or the first fault, or want of memory.
 pub fn load(heap: Global, bytes: &[u8]) -> Result<Vec<Task>, LoadFault>
-    ensures { λ r. ⌜ LoadTold r (loading (now (bytes .entry))) ⌝ }
+    ensures { λ r. ⌜ LoadTold (now (bytes .entry)) r ⌝ }
 {
     let costs = cost(bytes)?;
     let by_code = costs.by_code;

@@ -14,5 +14,5 @@ returns-in-Some c = free-told (c .args .bytes .now) (c .in-Continue-costs .costs
 pub returns : need.returns
 returns c =
     let x : Costed (c .args .bytes .now) (c .in-Continue-costs .costs) = costed (c .args .bytes .now) (c .in-Continue-costs .costs) (c .in-Continue-costs .ensures tt .told) in
-    finish (c .args .bytes .now) (c .in-Continue-costs .costs) (costed (c .args .bytes .now) (c .in-Continue-costs .costs) (c .in-Continue-costs .ensures tt .told)) (c .free-marks-free .result) (c .free-marks-free .ensures) (c .in-rest .ensures tt) (c .load-tasks .result)
+    finish (c .args .bytes .now) (c .in-Continue-costs .costs) (costed (c .args .bytes .now) (c .in-Continue-costs .costs) (c .in-Continue-costs .ensures tt .told)) (c .free-marks-free .result) (c .free-marks-free .ensures) (c .in-rest .ensures tt) (c .load-tasks .result) (λ i. c .typed .bytes i .fits) (c .in-Continue-costs .ensures tt .cycles)
     (c .load-tasks .ensures (x .it .tasks) (x .tasks-are) (tasks-read (c .args .bytes .now) (c .in-Continue-costs .costs) (costed (c .args .bytes .now) (c .in-Continue-costs .costs) (c .in-Continue-costs .ensures tt .told))) (tasks-priced (c .args .bytes .now) (c .in-Continue-costs .costs) (costed (c .args .bytes .now) (c .in-Continue-costs .costs) (c .in-Continue-costs .ensures tt .told)) (c .free-marks-free .result) (c .free-marks-free .ensures) (c .in-rest .ensures tt)))
