@@ -3,8 +3,8 @@ use mathlib.Core.Path.{_≡_, refl, sym, ap, subst, _∙_}
 use mathlib.Core.List.{List}
 use mathlib.Core.Logic.{⊎-elim}
 use mathlib.Core.Bool.{true, false}
-use Prim.Native.Nat.{ℕ, zero, suc, _+_, _-_, _*_, _^_, _<_, _≤_, min, max}
-use native.Mathlib.Nat.{mul-le-mul, zero-mul, suc-mul, zero-add, add-assoc}
+use Prim.Native.Nat.{ℕ, zero, suc, _+_, _-_, _*_, _<_, _≤_, min, max}
+use native.Mathlib.Nat.{zero-mul, suc-mul, zero-add, add-assoc}
 use native.Mathlib.Omega.{arith}
 use lib.ListN.{length}
 use Rattle.std.proofs.shelf.Tests.{cases-lt, cond-true, cond-false}
@@ -142,9 +142,6 @@ module _ (of : ℕ → ℕ) where
   item-err (Ok p) f q e = clash e
   item-err (Err g) f q e = let same : g ≡ f = cc in record { says = ap Err (sym same); stands = refl }
 
-pub product-fits : (k n : ℕ) → k < 2 ^ 32 → n ≤ 1000001 → k * n < 2 ^ 64
-product-fits k n h l = let m : k ≤ 4294967296 = omega arith in omega (arith, mul-le-mul m l)
-
 -- a cap before a product changes nothing under the same cap
 pub cap-product : (k c x : ℕ) → c ≡ min x 1000001 → min (k * c) 1000001 ≡ min (k * x) 1000001
 cap-product zero c x e = rw (zero-mul c, zero-mul x)
@@ -224,7 +221,7 @@ pub first-arm : (of : ℕ → ℕ) (d at place : ℕ) (bs : List ℕ) → Arming
 first-arm of d at place bs =
     record { left = length bs; true-best = 0; enough = omega arith; paid = refl; gives = either-cost of (armsBy (runAt d bs at) bs (suc (length bs)) place) ∙ sym (atLeast-zero _) }
 
--- a command that is neither 24 nor 25, and one that is not 27
+-- a command that is neither 24 nor 25
 pub no-arm : {X : Type 0} (c : Command) (o e x : X) → (c ≡ Or → ⊥) → (c ≡ EndEither → ⊥) → byLast o e x x x c ≡ x
 no-arm (Routine n) o e x h k = refl
 no-arm (Work n) o e x h k = refl
@@ -240,22 +237,6 @@ no-arm (Block n) o e x h k = refl
 no-arm (Point t q) o e x h k = refl
 no-arm EndTask o e x h k = refl
 no-arm Sheet o e x h k = refl
-
-pub no-turn : {X : Type 0} (c : Command) (r x : X) → (c ≡ EndRepeat → ⊥) → byLast x x r x x c ≡ x
-no-turn (Routine n) r x h = refl
-no-turn (Work n) r x h = refl
-no-turn (Call n) r x h = refl
-no-turn Either r x h = refl
-no-turn Or r x h = refl
-no-turn EndEither r x h = refl
-no-turn (Repeat n) r x h = refl
-no-turn EndRepeat r x h = absurd (h refl)
-no-turn EndRoutine r x h = refl
-no-turn (Task n m p) r x h = refl
-no-turn (Block n) r x h = refl
-no-turn (Point t q) r x h = refl
-no-turn EndTask r x h = refl
-no-turn Sheet r x h = refl
 
 module _ (of : ℕ → ℕ) (d : ℕ) (bs : List ℕ) (at best place : ℕ) (whole : Result Parsed ReadFault) (g : Arming of d bs at best place whole) where
   arm-rule : Ended → Result Armed ReadFault
@@ -304,15 +285,7 @@ module _ (of : ℕ → ℕ) (d : ℕ) (bs : List ℕ) (at place : ℕ) (c : Comm
   turns-is : {r : _} → runAt d bs at place ≡ r → itemAt d bs at c place ≡ then (a-repeat k) r
   turns-is e = ap (λ x. itemAt d bs at x place) is ∙ ap (then (a-repeat k)) e
 
-  pub turns-fault : (f : ReadFault) (q : ℕ) → RunTold of (Err f) q (runAt d bs at place) → price of (itemAt d bs at c place) ≡ Err f
-  turns-fault f q t = ap (price of) (turns-is (run-fault of f q _ t))
-
   module _ (r : Ran) (q : ℕ) (t : RunTold of (Ok r) q (runAt d bs at place)) where
-    pub turns-none : (r .last ≡ EndRepeat → ⊥) → price of (itemAt d bs at c place) ≡ Err (NotAllowed (r .at))
-    turns-none h =
-        let u : Was-run of r q (runAt d bs at place) = was-run of r q _ t in
-        ap (price of) (turns-is (u .is) ∙ no-turn (u .it .last) _ _ (λ p. h (u .last-is ∙ p))) ∙ ap (λ n. Err (NotAllowed n)) (sym (u .at-is))
-
     pub turns-last : (n : ℕ) → r .last ≡ EndRepeat → n ≡ min (k * r .cost) 1000001 → ItemTold of (Ok n) q (itemAt d bs at c place)
     turns-last n h pays =
         let u : Was-run of r q (runAt d bs at place) = was-run of r q _ t in
@@ -338,9 +311,6 @@ no-end EndTask h i j k = refl
 no-end Sheet h i j k = refl
 
 -- the same bytes, the same place, the same command
-pub run-there : (of : ℕ → ℕ) (d : ℕ) (b b′ : List ℕ) (at p q : ℕ) (r : Result Ran ReadFault) → b ≡ b′ → RunTold of r q (runAt d b at p) → RunTold of r q (runAt d b′ at p)
-run-there of d b b′ at p q r e t = subst (λ x. RunTold of r q (runAt d x at p)) e t
-
 pub item-there : (of : ℕ → ℕ) (d : ℕ) (b b′ : List ℕ) (at : ℕ) (c : Command) (p p′ q : ℕ) (r : Result ℕ ReadFault) → b ≡ b′ → p ≡ p′ → ItemTold of r q (itemAt d b at c p) → ItemTold of r q (itemAt d b′ at c p′)
 item-there of d b b′ at c p p′ q r e f t = subst (λ x. ItemTold of r q (itemAt d x at c p′)) e (subst (λ x. ItemTold of r q (itemAt d b at c x)) f t)
 

@@ -11,7 +11,7 @@ use Rattle.listing.specs.declared.table.Context.the-variants.{Body}
 use Rattle.listing.specs.declared.fault.ReadFault.the-variants.{Open}
 use Rattle.listing.specs.Commands.{answer, after, Forth}
 use Rattle.listing.specs.Runs.{runAt, byCode, RunTold, ItemTold}
-use Rattle.listing.proofs.Turns.{run-err, item-err, run-there, item-there, item-by, start, at-open, at-fault, at-end, at-item-fault, at-item, too-deep, first-arm, arm-fault, arm-last, arm-none, arm-next, turns-last}
+use Rattle.listing.proofs.Turns.{run-err, item-err, told-there, item-there, item-by, start, at-open, at-fault, at-end, at-item-fault, at-item, too-deep, first-arm, arm-fault, arm-last, arm-none, arm-next, turns-last}
 use Rattle.listing.proofs.walk.+cost_item+cost_run.Needs as need
 
 pub cost-run-returns-then-depth-eq0 : need.cost-run-returns-then-depth-eq0
@@ -92,7 +92,7 @@ cost-item-returns-in-Break-ran-2 t c =
     rw (p .1, p .2)
     (record {
       same = n .same ∙ bs;
-      told = item-by _ _ _ _ _ _ _ _ _ (c .in-Either .is) (item-err _ _ _ _ (arm-fault _ _ _ _ _ _ _ (c .arms .inv .3) _ _ (run-there _ _ _ _ _ _ _ _ bs (n .told))));
+      told = item-by _ _ _ _ _ _ _ _ _ (c .in-Either .is) (item-err _ _ _ _ (arm-fault _ _ _ _ _ _ _ (c .arms .inv .3) _ _ (told-there _ _ _ _ _ _ _ _ _ bs refl (n .told))));
       within = tt;
     })
 
@@ -104,7 +104,7 @@ cost-item-arms-again t c =
       n .same ∙ bs,
       omega (arith, n .within, c .arms .inv .1),
       omega (arith, n .within, c .max-best .ensures, c .arms .inv .2),
-      rw (c .max-best .ensures) (arm-next _ _ _ _ _ _ _ (c .arms .inv .3) _ _ (run-there _ _ _ _ _ _ _ _ bs (n .told)) (c .in-Or .is) (n .within .1) (omega (arith, n .within))),
+      rw (c .max-best .ensures) (arm-next _ _ _ _ _ _ _ (c .arms .inv .3) _ _ (told-there _ _ _ _ _ _ _ _ _ bs refl (n .told)) (c .in-Or .is) (n .within .1) (omega (arith, n .within))),
     )
 
 pub cost-item-returns-in-EndEither : need.cost-item-returns-in-EndEither
@@ -113,7 +113,7 @@ cost-item-returns-in-EndEither t c =
     let bs = c .arms .inv .0 in
     record {
       same = n .same ∙ bs;
-      told = item-by _ _ _ _ _ _ _ _ _ (c .in-Either .is) (rw (c .max-best .ensures) (arm-last _ _ _ _ _ _ _ (c .arms .inv .3) _ _ (run-there _ _ _ _ _ _ _ _ bs (n .told)) (c .in-EndEither .is)));
+      told = item-by _ _ _ _ _ _ _ _ _ (c .in-Either .is) (rw (c .max-best .ensures) (arm-last _ _ _ _ _ _ _ (c .arms .inv .3) _ _ (told-there _ _ _ _ _ _ _ _ _ bs refl (n .told)) (c .in-EndEither .is)));
       within = omega (arith, n .within, c .max-best .ensures, c .arms .inv .1, c .arms .inv .2);
     }
 
@@ -123,7 +123,7 @@ cost-item-returns-in-rest-last-2 t c =
     let bs = c .arms .inv .0 in
     record {
       same = n .same ∙ bs;
-      told = item-by _ _ _ _ _ _ _ _ _ (c .in-Either .is) (item-err _ _ _ _ (arm-none _ _ _ _ _ _ _ (c .arms .inv .3) _ _ (run-there _ _ _ _ _ _ _ _ bs (n .told)) (c .in-rest-last-2 .not-Or) (c .in-rest-last-2 .not-EndEither)));
+      told = item-by _ _ _ _ _ _ _ _ _ (c .in-Either .is) (item-err _ _ _ _ (arm-none _ _ _ _ _ _ _ (c .arms .inv .3) _ _ (told-there _ _ _ _ _ _ _ _ _ bs refl (n .told)) (c .in-rest-last-2 .not-Or) (c .in-rest-last-2 .not-EndEither)));
       within = tt;
     }
 
