@@ -31,7 +31,7 @@ impl Calls {
     }
 
     // Those of the routine at an offset.
-    pub fn of(bytes: &[u8], known: &Heads, at: usize) -> Calls
+    pub(crate) fn of(bytes: &[u8], known: &Heads, at: usize) -> Calls
         ensures { λ r. ⌜ CallsTold (held (now (known .entry))) (callsAt (now (bytes .entry)) at) r ⌝ }
     {
         let mut calls = Calls {

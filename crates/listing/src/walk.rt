@@ -38,7 +38,7 @@ fn ends_run(command: Command) -> bool
 }
 
 // The run at the reader's place, which the command at `opener` begins, with `depth` levels allowed.
-pub fn cost_run(
+pub(crate) fn cost_run(
     reader: &mut Reader,
     costs: &[u32; 256],
     opener: usize,

@@ -8,7 +8,7 @@ use super::Head;
 use super::Heads;
 
 impl Heads {
-    pub fn new() -> Heads
+    pub(crate) fn new() -> Heads
         ensures { λ r. ⌜ held r ≡ [] ⌝ }
     {
         Heads {
@@ -34,7 +34,7 @@ impl Heads {
     }
 
     // Is a code among them?
-    pub fn contains(&self, code: u8) -> bool
+    pub(crate) fn contains(&self, code: u8) -> bool
         ensures { λ r. ⌜ r ≡ used code (held (now (self .entry))) ⌝ }
     {
         for i in 0..self.count {
