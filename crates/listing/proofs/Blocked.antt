@@ -10,8 +10,8 @@ use Rattle.std.proofs.shelf.Tests.{cond-true, cond-false}
 use Rattle.std.specs.declared.option.Option.the-variants.{Some, None}
 use Rattle.std.specs.declared.result.Result.{Result}
 use Rattle.std.specs.declared.result.Result.the-variants.{Ok, Err}
-use Rattle.listing.specs.declared.fault.ReadFault.{ReadFault}
-use Rattle.listing.specs.declared.fault.ReadFault.the-variants.{NotAllowed, Open, TooMany}
+use Rattle.faults.specs.declared.fault.ReadFault.{ReadFault}
+use Rattle.faults.specs.declared.fault.ReadFault.the-variants.{NotAllowed, Open, TooMany}
 use Rattle.listing.specs.declared.table.Command.{Command}
 use Rattle.listing.specs.declared.table.Command.the-variants as command
 use Rattle.listing.specs.declared.table.Context.the-variants.{BlockDue, AfterBlock}

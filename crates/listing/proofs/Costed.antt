@@ -12,9 +12,9 @@ use Rattle.std.specs.declared.option.Option.{Option}
 use Rattle.std.specs.declared.option.Option.the-variants.{Some, None}
 use Rattle.std.specs.declared.result.Result.{Result}
 use Rattle.std.specs.declared.result.Result.the-variants.{Ok, Err}
-use Rattle.listing.specs.declared.fault.ReadFault.{ReadFault}
-use Rattle.listing.specs.declared.fault.CostFault.{CostFault}
-use Rattle.listing.specs.declared.fault.CostFault.the-variants.{Read, Unknown, Cycle, TooDear}
+use Rattle.faults.specs.declared.fault.ReadFault.{ReadFault}
+use Rattle.faults.specs.declared.fault.CostFault.{CostFault}
+use Rattle.faults.specs.declared.fault.CostFault.the-variants.{Read, Unknown, Cycle, TooDear}
 use Rattle.listing.specs.declared.heads.Head.{Head}
 use Rattle.listing.specs.declared.outline.Outline.{Outline}
 use Rattle.listing.specs.Heads.{held, used}

@@ -17,8 +17,8 @@ use Rattle.std.specs.declared.option.Option.{Option}
 use Rattle.std.specs.declared.option.Option.the-variants.{Some, None}
 use Rattle.std.specs.declared.result.Result.{Result}
 use Rattle.std.specs.declared.result.Result.the-variants.{Ok, Err}
-use Rattle.listing.specs.declared.fault.ReadFault.{ReadFault}
-use Rattle.listing.specs.declared.fault.ReadFault.the-variants.{CodeUsed, TooMany}
+use Rattle.faults.specs.declared.fault.ReadFault.{ReadFault}
+use Rattle.faults.specs.declared.fault.ReadFault.the-variants.{CodeUsed, TooMany}
 use Rattle.listing.specs.declared.table.Row.{Row}
 use Rattle.listing.specs.declared.table.Kind.{Kind}
 use Rattle.listing.specs.declared.table.Kind.the-variants as kind

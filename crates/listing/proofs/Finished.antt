@@ -20,11 +20,11 @@ use Rattle.std.specs.declared.option.Option.the-variants.{Some, None}
 use Rattle.std.specs.declared.result.Result.{Result}
 use Rattle.std.specs.declared.result.Result.the-variants.{Ok, Err}
 use Rattle.tasks.specs.declared.model.Task.{Task as HeldTask}
-use Rattle.listing.specs.declared.fault.ReadFault.{ReadFault}
-use Rattle.listing.specs.declared.fault.CostFault.{CostFault}
-use Rattle.listing.specs.declared.fault.CostFault.the-variants.{Unknown, Cycle, TooDear}
-use Rattle.listing.specs.declared.fault.LoadFault.{LoadFault}
-use Rattle.listing.specs.declared.fault.LoadFault.the-variants.{Cost, FreeBlock, NoMemory}
+use Rattle.faults.specs.declared.fault.ReadFault.{ReadFault}
+use Rattle.faults.specs.declared.fault.CostFault.{CostFault}
+use Rattle.faults.specs.declared.fault.CostFault.the-variants.{Unknown, Cycle, TooDear}
+use Rattle.faults.specs.declared.fault.LoadFault.{LoadFault}
+use Rattle.faults.specs.declared.fault.LoadFault.the-variants.{Cost, FreeBlock, NoMemory}
 use Rattle.listing.specs.declared.heads.Head.{Head}
 use Rattle.listing.specs.declared.cost.Costs.{Costs}
 use Rattle.listing.specs.Bodies.{Body-read, Task-read}

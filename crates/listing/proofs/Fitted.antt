@@ -15,7 +15,7 @@ use Rattle.std.specs.declared.option.Option.{Option}
 use Rattle.std.specs.declared.option.Option.the-variants.{Some, None}
 use Rattle.std.specs.declared.result.Result.{Result}
 use Rattle.std.specs.declared.result.Result.the-variants.{Ok, Err}
-use Rattle.listing.specs.declared.fault.ReadFault.{ReadFault}
+use Rattle.faults.specs.declared.fault.ReadFault.{ReadFault}
 use Rattle.listing.specs.declared.table.Kind.{Kind}
 use Rattle.listing.specs.declared.table.Kind.the-variants as kind
 use Rattle.listing.specs.declared.table.Numbers.{Numbers}

@@ -14,7 +14,7 @@ use Rattle.std.proofs.shelf.Tests.{cond-true, cond-false, cases-eq, cases-bool}
 use Rattle.std.specs.declared.option.Option.{Option}
 use Rattle.std.specs.declared.option.Option.the-variants.{Some, None}
 use Rattle.std.specs.declared.result.Result.the-variants.{Ok, Err}
-use Rattle.listing.specs.declared.fault.ReadFault.{ReadFault}
+use Rattle.faults.specs.declared.fault.ReadFault.{ReadFault}
 use Rattle.listing.specs.declared.table.Command.{Command}
 use Rattle.listing.specs.declared.table.Command.the-variants.{Routine, Work, Call, Either, Or, EndEither, Repeat, EndRepeat, EndRoutine, Task, Block, Point, EndTask, Sheet}
 use Rattle.listing.specs.declared.table.Context.the-variants.{Body}

@@ -12,8 +12,8 @@ use Rattle.std.specs.declared.option.Option.{Option}
 use Rattle.std.specs.declared.option.Option.the-variants.{Some, None}
 use Rattle.std.specs.declared.result.Result.{Result}
 use Rattle.std.specs.declared.result.Result.the-variants.{Ok, Err}
-use Rattle.listing.specs.declared.fault.ReadFault.{ReadFault}
-use Rattle.listing.specs.declared.fault.ReadFault.the-variants.{NotAllowed}
+use Rattle.faults.specs.declared.fault.ReadFault.{ReadFault}
+use Rattle.faults.specs.declared.fault.ReadFault.the-variants.{NotAllowed}
 use Rattle.listing.specs.declared.table.Command.{Command}
 use Rattle.listing.specs.declared.table.Command.the-variants as command
 use Rattle.listing.specs.declared.table.Context.the-variants.{BlockDue, AfterBlock}

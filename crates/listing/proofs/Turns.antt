@@ -14,8 +14,8 @@ use Rattle.std.specs.declared.result.Result.the-variants.{Ok, Err}
 use Rattle.listing.specs.declared.table.Command.{Command}
 use Rattle.listing.specs.declared.table.Command.the-variants.{Routine, Work, Call, Either, Or, EndEither, Repeat, EndRepeat, EndRoutine, Task, Block, Point, EndTask, Sheet}
 use Rattle.listing.specs.declared.table.Context.the-variants.{Body}
-use Rattle.listing.specs.declared.fault.ReadFault.{ReadFault}
-use Rattle.listing.specs.declared.fault.ReadFault.the-variants.{NotAllowed, Open, TooMany}
+use Rattle.faults.specs.declared.fault.ReadFault.{ReadFault}
+use Rattle.faults.specs.declared.fault.ReadFault.the-variants.{NotAllowed, Open, TooMany}
 use Rattle.listing.specs.declared.walk.Ran.{Ran}
 use Rattle.listing.specs.Commands.{answer, after}
 use Rattle.listing.specs.Trees.{Item, Run, Arms, one, costItem, costRun, costArms}

@@ -4,7 +4,7 @@ use Prim.Native.Nat.{ℕ}
 use Rattle.std.specs.Iters.{counting}
 use Rattle.std.specs.declared.result.Result.{Result}
 use Rattle.std.specs.declared.result.Result.the-variants.{Ok, Err}
-use Rattle.listing.specs.declared.fault.CostFault.{CostFault}
+use Rattle.faults.specs.declared.fault.CostFault.{CostFault}
 use Rattle.listing.specs.declared.heads.Head.{Head}
 use Rattle.listing.specs.declared.cost.Costs.{Costs}
 use Rattle.listing.specs.Heads.{held}

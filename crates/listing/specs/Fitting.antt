@@ -7,7 +7,7 @@ use lib.Dec.{eqb}
 use lib.ListN.{length}
 use Rattle.std.specs.declared.result.Result.{Result}
 use Rattle.std.specs.declared.result.Result.the-variants.{Ok, Err}
-use Rattle.listing.specs.declared.fault.ReadFault.{ReadFault}
+use Rattle.faults.specs.declared.fault.ReadFault.{ReadFault}
 use Rattle.listing.specs.declared.outline.Outline.{Outline}
 use Rattle.listing.specs.Encoding.{encode}
 use Rattle.listing.specs.Listings.{listing}

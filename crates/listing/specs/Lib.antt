@@ -1,4 +1,3 @@
-pub mod Faults
 pub mod Commands
 pub mod Heads
 pub mod Trees

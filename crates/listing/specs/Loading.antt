@@ -17,9 +17,9 @@ use Rattle.tasks.specs.declared.blocks.Block.{Block}
 use Rattle.tasks.specs.declared.points.Point.{Point}
 use Rattle.tasks.specs.Ranges.{bodyFits}
 use Rattle.tasks.specs.declared.model.Task.{Task as HeldTask}
-use Rattle.listing.specs.declared.fault.CostFault.{CostFault}
-use Rattle.listing.specs.declared.fault.LoadFault.{LoadFault}
-use Rattle.listing.specs.declared.fault.LoadFault.the-variants.{Cost, FreeBlock, NoMemory}
+use Rattle.faults.specs.declared.fault.CostFault.{CostFault}
+use Rattle.faults.specs.declared.fault.LoadFault.{LoadFault}
+use Rattle.faults.specs.declared.fault.LoadFault.the-variants.{Cost, FreeBlock, NoMemory}
 use Rattle.listing.specs.declared.parts.Parts.{Parts}
 use Rattle.listing.specs.declared.heads.Head.{Head}
 use Rattle.listing.specs.Trees.{Blocks, final, block, Task, Listing, blockHeads}

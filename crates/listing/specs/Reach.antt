@@ -6,8 +6,8 @@ use Prim.Native.Nat.{ℕ, _<_}
 use lib.ListN.{length, getD}
 use Rattle.std.specs.declared.result.Result.{Result}
 use Rattle.std.specs.declared.result.Result.the-variants.{Ok, Err}
-use Rattle.listing.specs.declared.fault.CostFault.{CostFault}
-use Rattle.listing.specs.declared.fault.CostFault.the-variants.{Read, Unknown, Cycle, TooDear}
+use Rattle.faults.specs.declared.fault.CostFault.{CostFault}
+use Rattle.faults.specs.declared.fault.CostFault.the-variants.{Read, Unknown, Cycle, TooDear}
 use Rattle.listing.specs.declared.cost.Costs.{Costs}
 use Rattle.listing.specs.Heads.{head}
 use Rattle.listing.specs.Trees.{Routine, Listing}

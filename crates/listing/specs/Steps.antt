@@ -8,7 +8,7 @@ use Rattle.std.specs.declared.option.Option.{Option}
 use Rattle.std.specs.declared.option.Option.the-variants.{Some, None}
 use Rattle.std.specs.declared.result.Result.{Result}
 use Rattle.std.specs.declared.result.Result.the-variants.{Ok, Err}
-use Rattle.listing.specs.declared.fault.ReadFault.{ReadFault}
+use Rattle.faults.specs.declared.fault.ReadFault.{ReadFault}
 use Rattle.listing.specs.declared.table.Command.{Command}
 use Rattle.listing.specs.declared.table.Context.the-variants.{Tasks}
 use Rattle.listing.specs.declared.parts.Clock.{Clock}

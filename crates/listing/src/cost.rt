@@ -24,8 +24,6 @@ use crate::blocks::marked_block;
 use crate::blocks::unlisted;
 use crate::calls::Calls;
 use crate::cycles::reached;
-use crate::fault::CostFault;
-use crate::fault::CostFromRead;
 use crate::heads::Head;
 use crate::heads::Heads;
 use crate::outline::Outline;
@@ -33,6 +31,8 @@ use crate::read::read;
 use crate::reader::Reader;
 use crate::table::Context;
 use crate::walk::cost_run;
+use faults::fault::CostFault;
+use faults::fault::CostFromRead;
 
 // The codes that each routine calls, or the first call of a code that no routine has.
 fn call_table(bytes: &[u8], routines: &Heads) -> Result<[[bool; 256]; 32], Head>

@@ -3,7 +3,6 @@ pub mod blocks;
 pub mod calls;
 pub mod cost;
 pub mod cycles;
-pub mod fault;
 pub mod heads;
 pub mod load;
 pub mod outline;

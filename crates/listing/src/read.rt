@@ -7,7 +7,6 @@ ghost use Rattle.std.specs.Vec.{made};
 ghost use Rattle.listing.specs.Heads.{held};
 ghost use Rattle.listing.specs.Fitting.{Accepted};
 ghost use Rattle.listing.specs.Listings.{routinesFrom, tasksFrom, blocksFrom, listing, outlineOf, told, routineHeads, taskHeads, headsAt, blocksEnd, endAt};
-use crate::fault::ReadFault;
 use crate::heads::Head;
 use crate::heads::Heads;
 use crate::outline::Outline;
@@ -15,6 +14,7 @@ use crate::reader::Reader;
 use crate::table::Command;
 use crate::table::Context;
 use crate::walk::cost_run;
+use faults::fault::ReadFault;
 
 // The greatest length of a listing.
 pub const LONGEST: usize = 32_768;

@@ -3,10 +3,10 @@ ghost use mathlib.Core.Path.{_≡_};
 ghost use Prim.Native.Nat.{ℕ, _+_, _<_, _≤_};
 ghost use lib.ListN.{length, drop};
 ghost use Rattle.listing.specs.Commands.{answer, after, Forth};
-use crate::fault::ReadFault;
 use crate::table::Command;
 use crate::table::Context;
 use crate::table::Row;
+use faults::fault::ReadFault;
 
 #[derive(Drop)]
 pub struct Reader<'a> {

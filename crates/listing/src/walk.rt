@@ -6,10 +6,10 @@ ghost use lib.ListN.{length, getD};
 ghost use Rattle.std.specs.Vec.{made};
 ghost use Rattle.listing.specs.Commands.{answer};
 ghost use Rattle.listing.specs.Runs.{ends, itemBy, runAt, byCode, RunTold, ItemTold};
-use crate::fault::ReadFault;
 use crate::reader::Reader;
 use crate::table::Command;
 use crate::table::Context;
+use faults::fault::ReadFault;
 
 // A run's cost, the command that ended it, and that command's offset.
 #[derive(Clone, Copy)]

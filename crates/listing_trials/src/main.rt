@@ -1,5 +1,5 @@
 // Loads listings that are written in hexadecimal, one on a line, and prints what each is: its tasks, or the refusal.
-use listing::fault::LoadFault;
+use faults::fault::LoadFault;
 use listing::load::load;
 use std::alloc::AllocError;
 use std::alloc::Global;

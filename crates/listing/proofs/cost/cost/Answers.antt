@@ -1,7 +1,7 @@
 use mathlib.Core.Path.{_≡_, refl, sym, ap, _∙_}
 use Rattle.std.proofs.shelf.Results.{err-from-errBy}
 use Rattle.std.specs.declared.result.Result.the-variants.{Ok, Err}
-use Rattle.listing.specs.declared.fault.CostFault.the-variants.{Unknown, Cycle, TooDear}
+use Rattle.faults.specs.declared.fault.CostFault.the-variants.{Unknown, Cycle, TooDear}
 use Rattle.listing.proofs.Costed.{Outlined, outlined, read-fault, call-told, block-told, cycle-told, dear-told, all-told, both}
 use Rattle.listing.proofs.cost.cost.Needs as need
 

@@ -1,7 +1,7 @@
 use mathlib.Core.Path.{sym, _∙_}
 use Rattle.std.proofs.shelf.Results.{err-from-errBy}
 use Rattle.listing.proofs.Gathered.{too-long, routines-fault, tasks-fault, all-read}
-use Rattle.listing.specs.declared.fault.ReadFault.the-variants.{TooLong}
+use Rattle.faults.specs.declared.fault.ReadFault.the-variants.{TooLong}
 use Rattle.listing.proofs.Fitted.{accepts-tree, refuses-none}
 use Rattle.listing.proofs.read.read.Needs as need
 

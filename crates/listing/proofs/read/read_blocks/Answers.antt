@@ -7,7 +7,7 @@ use lib.ListN.{length}
 use Rattle.std.proofs.shelf.Results.{err-from-errBy}
 use Rattle.std.specs.declared.option.Option.the-variants.{Some, None}
 use Rattle.std.specs.declared.result.Result.the-variants.{Ok, Err}
-use Rattle.listing.specs.declared.fault.ReadFault.the-variants.{Open}
+use Rattle.faults.specs.declared.fault.ReadFault.the-variants.{Open}
 use Rattle.listing.specs.declared.table.Context.the-variants.{BlockDue, AfterBlock}
 use Rattle.listing.specs.Commands.{answer, after}
 use Rattle.listing.proofs.Decoded.{read-there, read-as}

@@ -1,8 +1,8 @@
 // What reading, costing and loading refuse, each case with the place that is told.
 ghost use mathlib.Core.Path.{_≡_};
-ghost use Rattle.listing.specs.declared.fault.CostFault.the-variants.{Read};
-ghost use Rattle.listing.specs.declared.fault.LoadFault.the-variants.{Cost, NoMemory};
-ghost use Rattle.listing.specs.Faults.{readNumber, readPlace, costNumber, costPlace, costCode, loadNumber, loadPlace, loadCode};
+ghost use Rattle.faults.specs.declared.fault.CostFault.the-variants.{Read};
+ghost use Rattle.faults.specs.declared.fault.LoadFault.the-variants.{Cost, NoMemory};
+ghost use Rattle.faults.specs.Faults.{readNumber, readPlace, costNumber, costPlace, costCode, loadNumber, loadPlace, loadCode};
 use std::alloc::AllocError;
 use std::alloc::Refused;
 

@@ -2,12 +2,12 @@
 use Prim.Native.Nat.{ℕ}
 use Rattle.std.specs.declared.option.Option.{Option}
 use Rattle.std.specs.declared.option.Option.the-variants.{Some, None}
-use Rattle.listing.specs.declared.fault.CostFault.{CostFault}
-use Rattle.listing.specs.declared.fault.CostFault.the-variants.{Read, Unknown, Cycle, TooDear}
-use Rattle.listing.specs.declared.fault.LoadFault.{LoadFault}
-use Rattle.listing.specs.declared.fault.LoadFault.the-variants.{Cost, FreeBlock, NoMemory}
-use Rattle.listing.specs.declared.fault.ReadFault.{ReadFault}
-use Rattle.listing.specs.declared.fault.ReadFault.the-variants.{TooLong, NotAllowed, Short, Open, OutOfRange, CodeUsed, TooMany}
+use Rattle.faults.specs.declared.fault.CostFault.{CostFault}
+use Rattle.faults.specs.declared.fault.CostFault.the-variants.{Read, Unknown, Cycle, TooDear}
+use Rattle.faults.specs.declared.fault.LoadFault.{LoadFault}
+use Rattle.faults.specs.declared.fault.LoadFault.the-variants.{Cost, FreeBlock, NoMemory}
+use Rattle.faults.specs.declared.fault.ReadFault.{ReadFault}
+use Rattle.faults.specs.declared.fault.ReadFault.the-variants.{TooLong, NotAllowed, Short, Open, OutOfRange, CodeUsed, TooMany}
 
 abbrev pub readNumber : ReadFault → ℕ
 readNumber TooLong = 1
