@@ -1,4 +1,6 @@
 // A binary min-heap over a lent slice, for every item that has a total order.
+#![tactic(auto)]
+
 ghost use Rattle.std.specs.Prelude.{◌≡◌, [], length};
 ghost use Rattle.heap.specs.Held.{size, room, held, rest, Good};
 

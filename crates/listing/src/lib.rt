@@ -1,4 +1,6 @@
 // Listings of routines and tasks: worst costs and loading.
+#![tactic(auto)]
+
 pub mod blocks;
 pub mod calls;
 pub mod cost;

@@ -1,5 +1,7 @@
 // Loads listings, each on a line with a name, a colon and its bytes in hexadecimal, and prints what each is: its tasks, or the
 // refusal.
+#![tactic(auto)]
+
 use faults::fault::LoadFault;
 use listing::load::load;
 use std::alloc::{AllocError, Global};

@@ -1,4 +1,6 @@
 // Reads a task and limits on the length of its stretches, and prints the best points for each limit.
+#![tactic(auto)]
+
 mod draft;
 mod line;
 mod problem;

@@ -1,4 +1,6 @@
 // Tries the rules: the worked figures, random tables against a plain scan over every moment, and the speed of the exact rule.
+#![tactic(auto)]
+
 mod figures;
 mod piles;
 mod random;

@@ -1,4 +1,6 @@
 // The best points of one task within a limit on the length of its stretches.
+#![tactic(auto)]
+
 pub mod answer;
 pub mod candidate;
 mod lengths;

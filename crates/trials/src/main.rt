@@ -1,4 +1,6 @@
 // Trials of the selection: worked figures as one fact over the definitions, and random small tasks against all of their choices.
+#![tactic(auto)]
+
 ghost use Rattle.trials.specs.Figures.{Figures};
 
 mod brute;
