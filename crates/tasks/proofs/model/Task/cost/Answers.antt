@@ -1,4 +1,4 @@
-use Rattle.std.proofs.Common.{◌≡◌, cond, sym, ap, ◌∙◌, arith}
+use Rattle.std.proofs.Common.{◌≡◌, cond, sym, ap, arith}
 use Rattle.tasks.specs.Choices.{told}
 use Rattle.tasks.specs.Tasks.{cost_of_block, point_at}
 use Rattle.tasks.proofs.Walks.{total-more}

@@ -1,4 +1,4 @@
-use Rattle.std.proofs.Common.{◌≡◌, ℕ, suc, ◌+◌, cond, List, [], ◌∷◌, ◌++◌, vec_items, sym, ap, ◌∙◌, subst, ap₂, add-one, arith}
+use Rattle.std.proofs.Common.{◌≡◌, ◌+◌, cond, [], ◌∷◌, ◌++◌, vec_items, sym, ap, ◌∙◌, subst, ap₂, add-one, arith}
 use Rattle.tasks.specs.declared.choices.Stretch.{Stretch}
 use Rattle.tasks.specs.Choices.{told}
 use Rattle.tasks.specs.Tasks.{cost_of_block, point_at, point_count}
