@@ -11,6 +11,7 @@ use draft::Draft;
 use line::read_line;
 use problem::Problem;
 use report::print_answer;
+use std::process::ExitCode;
 
 // The input, line by line; a problem is told with the number of its line.
 fn read(rt: &HostRuntime) -> anyhow::Result<Draft> {
@@ -39,16 +40,16 @@ fn run(rt: &HostRuntime) -> anyhow::Result<()> {
             }
             Ok(())
         }
-        Err(problem) => Err(problem.text().into()),
+        Err(problem) => Err(anyhow!(problem.text())),
     }
 }
 
-fn main(rt: HostRuntime) -> anyhow::Result<()> {
+fn main(rt: HostRuntime) -> ExitCode {
     match run(&rt) {
-        Ok(()) => Ok(()),
+        Ok(()) => ExitCode::SUCCESS,
         Err(e) => {
-            eprintln!(rt; "points: {e}")?;
-            Err(e)
+            let _ = eprintln!(rt; "points: {e}");
+            ExitCode::FAILURE
         }
     }
 }
