@@ -1,6 +1,6 @@
 -- Binary heaps in a list: the children of the item at p stand at p * 2 + 1 and p * 2 + 2. `before x y` says that x comes before y.
 use Rattle.std.specs.Prelude.{◌≡◌, ℕ, ◌+◌, ◌*◌, ◌<◌, ◌≤◌, Bool, false, List, length, slice_index_or}
-use Rattle.std.specs.List.{AllByRecursion as All}
+use Rattle.std.specs.List.{AllByRecursion}
 
 -- no item at a place below `end` comes before its parent, where the parent's place is at least `low`
 unfoldable pub HeapedWithin : {X : Type 0} → (X → X → Bool) → List X → ℕ → ℕ → Type 0
@@ -16,4 +16,4 @@ NoChildBefore {X} before xs j c = (k : ℕ) (d : X) → j * 2 + 1 ≤ k → k �
 
 -- no item of xs comes before x
 abbrev pub Least : {X : Type 0} → (X → X → Bool) → X → List X → Type 0
-Least before x xs = All (λ y. before y x ≡ false) xs
+Least before x xs = AllByRecursion (λ y. before y x ≡ false) xs

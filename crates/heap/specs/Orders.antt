@@ -2,7 +2,7 @@
 use Rattle.std.specs.Prelude.{◌≡◌, ℕ, Bool, true, false, cond, nat_lt}
 use Rattle.std.specs.declared.cmp.Ordering.{Ordering}
 use Rattle.std.specs.declared.cmp.Ordering.TheVariants.{Less, Equal, Greater}
-use Rattle.std.specs.Ordering.{ordering_then}
+use Rattle.std.specs.Ordering.{ordering_then, nat_cmp}
 use Rattle.std.proofs.Common.{refl, ◌∙◌, rules, arith}
 
 -- pairs: the first part decides, then the second
@@ -35,7 +35,7 @@ lexical-chain first second f c s x y z = grind (arith, f, c, s)
 abbrev pub answer_by : Bool → Bool → Ordering
 answer_by a b = cond a Less (cond b Greater Equal)
 
-answer_by-then : (a b c d : Bool) → (a ≡ true → b ≡ false) → ordering_then (answer_by a b) (answer_by c d) ≡ answer_by (cond a true (cond b false c)) (cond b true (cond a false d))
+pub answer_by-then : (a b c d : Bool) → (a ≡ true → b ≡ false) → ordering_then (answer_by a b) (answer_by c d) ≡ answer_by (cond a true (cond b false c)) (cond b true (cond a false d))
 answer_by-then true true c d asym = let e : true ≡ false = asym refl in cc
 answer_by-then true false c d asym = refl
 answer_by-then false true c d asym = refl
@@ -48,3 +48,7 @@ pub lexical-says : {X Y : Type 0} (first : X → X → Bool) (second : Y → Y �
     → r ≡ answer_by (lexical first second x y) (lexical first second y x)
 lexical-says first second x y p q r asym a b e =
     e ∙ (λ i. ordering_then (a i) (b i)) ∙ answer_by-then (first x.0 y.0) (first y.0 x.0) (second x.1 y.1) (second y.1 x.1) asym
+
+-- numbers: what their comparison answers
+pub nat_cmp-says : (x y : ℕ) → nat_cmp x y ≡ answer_by (nat_lt x y) (nat_lt y x)
+nat_cmp-says x y = search rules

@@ -1,9 +1,8 @@
 -- The law of one task, over the definitions.
-use Rattle.std.proofs.Common.{◌≡◌, ℕ, zero, suc, ◌+◌, ◌-◌, ◌^◌, ◌<◌, ◌≤◌, Bool, true, false, cond, ◌⊎◌, List, [], ◌∷◌, length, Some, None, Option, sym, refl, ap, ◌∙◌, subst, ap₂, inl, inr, ⊎_elim, pow-suc, arith, pow_pos, pow_mono}
+use Rattle.std.proofs.Common.{◌≡◌, ℕ, zero, suc, ◌+◌, ◌^◌, ◌<◌, ◌≤◌, Bool, true, false, cond, [], ◌∷◌, length, Some, None, Option, sym, refl, ap, ◌∙◌, subst, ap₂, ⊎_elim, pow-suc, arith, pow_pos, pow_mono}
 use Rattle.std.proofs.lemmas.Bool.{cases_lt}
-use Rattle.std.specs.List.{AllByRecursion as All}
 use Rattle.tasks.specs.declared.points.Point.{Point}
-use Rattle.tasks.specs.Choices.{Choice, told, stretches, total, rising}
+use Rattle.tasks.specs.Choices.{Choice, told, stretches}
 use Rattle.tasks.proofs.Words.{told-top, told_under, told-short}
 use Rattle.measures.specs.Joins.{Reached, measured}
 use Rattle.measures.proofs.Reach.{reached_measured, reached_weak}

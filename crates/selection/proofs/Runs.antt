@@ -1,5 +1,5 @@
 -- Running costs of a task's blocks.
-use Rattle.std.proofs.Common.{◌≡◌, ℕ, zero, suc, ◌+◌, ◌*◌, ◌≤◌, refl, ap, ◌∙◌, arith}
+use Rattle.std.proofs.Common.{ℕ, zero, suc, ◌+◌, ◌*◌, ◌≤◌, arith}
 use Rattle.tasks.specs.declared.model.Task.{Task}
 use Rattle.tasks.specs.Tasks.{point_count, cost_of_block}
 use Rattle.tasks.proofs.Fits.{cost-fits}

@@ -1,6 +1,6 @@
 -- One block more for the heap of candidates.
-use Rattle.std.proofs.Common.{◌≡◌, ℕ, zero, suc, ◌+◌, ◌-◌, ◌<◌, ◌≤◌, Bool, true, false, cond, ltb, leb, ◌⊎◌, List, [], ◌∷◌, length, get_or, set, Some, None, Option, sym, refl, ap, ◌∙◌, subst, ap₂, inl, inr, ⊎_elim, add-one, arith, get_or-set_other, get_or-set_same, MatchOption}
-use Rattle.std.specs.List.{ContainsAt as Has, AllByRecursion as All}
+use Rattle.std.proofs.Common.{◌≡◌, ℕ, zero, suc, ◌+◌, ◌<◌, ◌≤◌, Bool, true, false, cond, ltb, List, [], ◌∷◌, length, get_or, set, Some, None, Option, sym, refl, ap, ◌∙◌, subst, ap₂, inl, inr, ⊎_elim, arith, get_or-set_other, get_or-set_same, MatchOption}
+use Rattle.std.specs.List.{ContainsAt as Has}
 use Rattle.std.specs.List.Sorted.{IsPermutation}
 use Rattle.std.proofs.Permutation.{which}
 use Rattle.std.proofs.ByRecursion.{all-has, has_shuffled}
@@ -17,7 +17,7 @@ use Rattle.selection.specs.declared.candidate.Candidate.{Candidate}
 use Rattle.selection.specs.Candidates.{sooner}
 use Rattle.selection.specs.Limits.{within}
 use Rattle.selection.specs.Linked.{value_of, with_point, reaches, selected, offered, proposed, Holds, Picked, Linked, Cleared}
-use Rattle.selection.specs.Running.{cost_before, run, stretch_from}
+use Rattle.selection.specs.Running.{stretch_from}
 use Rattle.selection.specs.Selections.{Chosen, joined_at}
 use Rattle.selection.proofs.Best as best
 use Rattle.selection.proofs.Items.{has_first, has_later, has_cases, has_none}

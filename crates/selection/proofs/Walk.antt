@@ -1,5 +1,5 @@
 -- The walk back over the chosen starts.
-use Rattle.std.proofs.Common.{◌≡◌, ℕ, zero, suc, ◌+◌, ◌-◌, ◌*◌, ◌^◌, ◌<◌, ◌≤◌, max, Bool, true, false, cond, List, ◌∷◌, get_or, Some, None, Option, sym, refl, ap, ◌∙◌, subst, ap₂, add_comm, add-one, arith}
+use Rattle.std.proofs.Common.{◌≡◌, ℕ, zero, suc, ◌+◌, ◌-◌, ◌*◌, ◌^◌, ◌<◌, ◌≤◌, max, Bool, true, false, cond, List, get_or, Some, Option, sym, ap, ◌∙◌, add_comm, add-one, arith}
 use Rattle.tasks.specs.declared.model.Task.{Task}
 use Rattle.tasks.specs.declared.points.Point.{Point}
 use Rattle.tasks.specs.Choices.{Choice, told, stretches, total, greatest}
@@ -7,7 +7,7 @@ use Rattle.tasks.specs.Tasks.{cost_of_block, point_at, point_count}
 use Rattle.measures.specs.Joins.{Reached, measured}
 use Rattle.measures.proofs.Reach.{reached_measured, reached_weak}
 use Rattle.selection.specs.Linked.{reaches, selected, offered, proposed, Linked}
-use Rattle.selection.specs.Running.{cost_before, run, stretch_from}
+use Rattle.selection.specs.Running.{cost_before, stretch_from}
 use Rattle.selection.specs.Selections.{Chosen}
 use Rattle.selection.proofs.Law as law
 

@@ -1,18 +1,17 @@
 -- The selection of a whole task: what is answered of it, and the law of one task.
-use Rattle.std.proofs.Common.{◌≡◌, ℕ, suc, ◌+◌, ◌<◌, ◌≤◌, Bool, true, false, cond, ltb, length, Some, None, Ok, Err, Option, sym, refl, ap, ◌∙◌, subst, ap₂, arith}
+use Rattle.std.proofs.Common.{◌≡◌, ℕ, suc, ◌+◌, ◌≤◌, Bool, true, false, cond, ltb, length, Some, None, Ok, Err, Option, sym, ap, ◌∙◌, subst, arith}
 use lib.Count.{ones}
 use Rattle.std.proofs.lemmas.Bool.Decides.{nat_tests}
 use Rattle.tasks.specs.declared.model.Task.{Task}
 use Rattle.tasks.specs.declared.points.Point.{Point}
 use Rattle.tasks.specs.declared.refusals.Refusal.TheVariants.{TooSmall}
-use Rattle.tasks.specs.Choices.{Choice, told}
+use Rattle.tasks.specs.Choices.{told}
 use Rattle.tasks.specs.Tasks.{cost_of_block, point_at, point_count, cost_of, longest_of, points_of}
 use Rattle.tasks.proofs.Words.{ones_rising}
 use Rattle.measures.specs.Joins.{Reached, measured}
 use Rattle.measures.proofs.Reach.{reached_measured, reached_weak}
 use Rattle.selection.specs.declared.answer.Selection.{Selection}
 use Rattle.selection.specs.Answers.{told_of, answer_of, BestWithin}
-use Rattle.selection.specs.Limits.{Fits}
 use Rattle.selection.specs.Running.{cost_before}
 use Rattle.selection.specs.Selections.{Chosen, selection_of}
 use Rattle.selection.proofs.Law as law

@@ -1,9 +1,8 @@
-use Rattle.std.proofs.Common.{◌≡◌, ℕ, suc, ◌+◌, ◌<◌, ◌≤◌, List, length, get_or, set, vec_items, sym, refl, ap, ◌∙◌, subst, ap₂, ⊎_elim, add-one, arith, length-set, get_or-set_other, get_or-set_same}
+use Rattle.std.proofs.Common.{◌≡◌, ℕ, suc, ◌+◌, ◌<◌, ◌≤◌, List, length, get_or, set, vec_items, sym, ap, ◌∙◌, ap₂, ⊎_elim, add-one, arith, length-set, get_or-set_other, get_or-set_same}
 use Rattle.std.proofs.Permutation.{which}
 use Rattle.tasks.specs.declared.blocks.Block.{Block}
 use Rattle.tasks.specs.declared.model.Task.{Task}
 use Rattle.tasks.specs.Tasks.{cost_of_block, point_count}
-use Rattle.tasks.proofs.Fits.{cost-fits}
 use Rattle.selection.specs.Running.{cost_before}
 use Rattle.selection.proofs.Runs.{running_small}
 use Rattle.selection.proofs.lengths.running_costs.Goals as goal
@@ -16,8 +15,8 @@ module _ (t : Task) (i : ℕ) (costs : List ℕ) (blocks : List Block) (are : bl
   added : get_or costs i 0 ≡ cost_before (cost_of_block t) i → get_or costs i 0 + (get_or blocks i (record { cost = 0 })).cost ≡ cost_before (cost_of_block t) (suc i)
   added e = ap₂ ◌+◌ e (ap (λ (bs : List Block). (get_or bs i (record { cost = 0 })).cost) are)
 
-pub overflow-add-costs : goal.overflow-add-costs
-overflow-add-costs c =
+pub overflow_add-costs : goal.overflow_add-costs
+overflow_add-costs c =
     let t = c.args.task.now in
     let l = c.loop-i in
     let in' = inside t l.i l.costs c.blocks-block-items.result.now c.blocks-block-items.ensures c.loop-i-test.true in

@@ -1,20 +1,19 @@
-use Rattle.std.proofs.Common.{◌≡◌, ℕ, zero, suc, ◌+◌, ◌-◌, ◌<◌, ◌≤◌, length, get_or, vec_items, sym, refl, ap, ◌∙◌, ap₂, add-one, arith}
+use Rattle.std.proofs.Common.{◌≡◌, suc, ◌+◌, ◌-◌, ◌<◌, length, get_or, vec_items, sym, ap, ◌∙◌, ap₂, add-one, arith}
 use Rattle.std.proofs.lemmas.List.{get_or_default}
-use Rattle.tasks.specs.declared.points.Point.{Point}
-use Rattle.tasks.specs.Tasks.{cost_of_block, point_at, point_count, no_point}
+use Rattle.tasks.specs.Tasks.{cost_of_block, point_at, no_point}
 use Rattle.selection.specs.Running.{cost_before, run, stretch_from}
 use Rattle.selection.proofs.Law.{rises}
 use Rattle.selection.proofs.Runs.{running_small}
 use Rattle.selection.proofs.lengths.stretch.Goals as goal
 
-pub overflow-sub-blocks : goal.overflow-sub-blocks
-overflow-sub-blocks c =
+pub overflow_sub-blocks : goal.overflow_sub-blocks
+overflow_sub-blocks c =
     let t = c.args.task.now in
     let p = c.requires.order in
     omega (arith, c.requires.costs c.args.start (omega (arith, p)), c.requires.costs (c.args.end + 1) (omega (arith, p)), rises (cost_of_block t) c.args.start (c.args.end + 1) (omega (arith, p)))
 
-pub overflow-add-result : goal.overflow-add-result
-overflow-add-result c =
+pub overflow_add-result : goal.overflow_add-result
+overflow_add-result c =
     let t = c.args.task.now in
     let p = c.requires.order in
     omega (arith, c.ticks.ensures, c.index-points-start.result.small.0, c.requires.costs (c.args.end + 1) (omega (arith, p)), running_small t (c.args.end + 1) (omega (arith, p)), p, t.count)

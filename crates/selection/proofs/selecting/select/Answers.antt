@@ -1,4 +1,4 @@
-use Rattle.std.proofs.Common.{◌≡◌, ℕ, suc, ◌+◌, ◌-◌, ◌*◌, ◌%◌, ◌^◌, ◌<◌, ◌≤◌, max, length, get_or, Some, None, Option, sym, refl, ap, ◌∙◌, subst, ap₂, add-one, arith, pow_mono}
+use Rattle.std.proofs.Common.{◌≡◌, ℕ, ◌+◌, ◌-◌, ◌*◌, ◌%◌, ◌^◌, ◌<◌, ◌≤◌, max, length, get_or, Some, None, Option, sym, refl, ap, ◌∙◌, subst, ap₂, add-one, arith, pow_mono}
 use lib.Count.{ones}
 use Rattle.std.proofs.lemmas.Nat.{one_shl}
 use Rattle.tasks.specs.Choices.{told}
@@ -6,7 +6,7 @@ use Rattle.tasks.specs.Tasks.{cost_of_block, point_count, cost_of, longest_of}
 use Rattle.measures.specs.Joins.{Reached}
 use Rattle.selection.specs.Answers.{BestWithin}
 use Rattle.selection.specs.Running.{cost_before}
-use Rattle.selection.specs.Linked.{value_of, selected, Linked}
+use Rattle.selection.specs.Linked.{selected, Linked}
 use Rattle.selection.specs.Selections.{Chosen, selection_of}
 use Rattle.selection.proofs.Runs.{running_small}
 use Rattle.selection.proofs.Steps as steps
@@ -40,7 +40,7 @@ its g c pos = turned g c pos c.args.limit (chosen g c).0 (chosen g c).1 c.link-l
 pub loop-end-init : goal.loop-end-init
 loop-end-init g c =
     let t = c.args.task.now in
-    let all : c.block-count-blocks.result ≡ point_count t + 1 = c.block-count-blocks.ensures in (
+    let all : c.block_count-blocks.result ≡ point_count t + 1 = c.block_count-blocks.ensures in (
       omega (arith, all),
       λ limit s e linked. (
         s,
@@ -51,18 +51,18 @@ loop-end-init g c =
     )
 
 pub stretch-requires : goal.stretch-requires
-stretch-requires g c = let w = its g (goal.at.stretch-requires g c).At-loop-end c.loop-end-test.true in record { order = (omega (arith, w.falls), omega (arith, c.loop-end.invariant.0)); costs = c.running-costs-costs.ensures }
+stretch-requires g c = let w = its g (goal.at.stretch-requires g c).At-loop-end c.loop-end-test.true in record { order = (omega (arith, w.falls), omega (arith, c.loop-end.invariant.0)); costs = c.running_costs-costs.ensures }
 
-pub overflow-shl-points : goal.overflow-shl-points
-overflow-shl-points g c = let w = its g (goal.at.overflow-shl-points g c).At-loop-end c.loop-end-test.true in omega (arith, w.falls, c.loop-end.invariant.0, c.args.task.now.count)
+pub overflow_shl-points : goal.overflow_shl-points
+overflow_shl-points g c = let w = its g (goal.at.overflow_shl-points g c).At-loop-end c.loop-end-test.true in omega (arith, w.falls, c.loop-end.invariant.0, c.args.task.now.count)
 
 -- the bit that the code marks
 bit : (start points : ℕ) → 0 < start → start ≤ 64 → points + (1 * 2 ^ (start - 1)) % 2 ^ 64 ≡ points + walk.mark start
 bit start points h l = ap (λ b. points + b) (one_shl (start - 1) 64 (omega arith) ∙ sym (walk.mark-is start h))
 
-pub overflow-add-points : goal.overflow-add-points
-overflow-add-points g c =
-    let w = its g (goal.at.overflow-add-points g c).At-loop-end c.loop-end-test.true in
+pub overflow_add-points : goal.overflow_add-points
+overflow_add-points g c =
+    let w = its g (goal.at.overflow_add-points g c).At-loop-end c.loop-end-test.true in
     let t = c.args.task.now in
     let b = bit (get_or c.link-links.result.starts (c.loop-end.end - 1) 0) c.loop-end.points c.if-start-gt0.true (omega (arith, w.falls, c.loop-end.invariant.0, t.count)) in
     omega (arith, b, w.word, w.small, pow_mono {i = point_count t} {j = 64} (omega (arith, t.count)))
@@ -105,13 +105,13 @@ loop-end-preserved g c =
 selection-is : (g : given.Over) (c : At-loop-end g) → selection_of g.M.TotalOrder.before g.M.Measure.none g.M.Measure.join c.args.task.now c.args.limit ≡ Some (chosen g c).0
 selection-is g c = ap (selected g.M.TotalOrder.before g.M.Measure.none g.M.Measure.join c.args.task.now c.args.limit) (sym (add-one (point_count c.args.task.now))) ∙ (chosen g c).1
 
-pub returns-in-default : goal.returns-in-default
-returns-in-default g c =
+pub returns-in_default : goal.returns-in_default
+returns-in_default g c =
     let t = c.args.task.now in
     let before = g.M.TotalOrder.before in
     let none = g.M.Measure.none in
     let join = g.M.Measure.join in
-    let is : selection_of before none join t c.args.limit ≡ None = ap (selected before none join t c.args.limit) (sym (add-one (point_count t))) ∙ steps.value_none (selected before none join t c.args.limit (point_count t + 1)) (sym c.link-links.ensures.value ∙ c.in-default.is) in
+    let is : selection_of before none join t c.args.limit ≡ None = ap (selected before none join t c.args.limit) (sym (add-one (point_count t))) ∙ steps.value_none (selected before none join t c.args.limit (point_count t + 1)) (sym c.link-links.ensures.value ∙ c.in_default.is) in
     record {
       answer = whole.answered before none join t c.args.limit (length c.args.places.now) None None c.if-places-lt65.false is refl;
       best = whole.best_within before none join t c.args.limit g.M.TotalOrder.asym g.M.TotalOrder.chain g.met.M.Measure.keeps None is;
@@ -122,13 +122,13 @@ ticks-requires g c =
     let at = (goal.at.ticks-requires g c).At-loop-end in
     subst (Reached g.M.Measure.none g.M.Measure.join 63) (chosen g at).2 (whole.reached g.M.TotalOrder.before g.M.Measure.none g.M.Measure.join c.args.task.now c.args.limit g.M.TotalOrder.asym g.M.TotalOrder.chain (chosen g at).0 (selection-is g at))
 
-pub overflow-add-result : goal.overflow-add-result
-overflow-add-result g c =
-    let at = (goal.at.overflow-add-result g c).At-loop-end in
+pub overflow_add-result : goal.overflow_add-result
+overflow_add-result g c =
+    let at = (goal.at.overflow_add-result g c).At-loop-end in
     let t = c.args.task.now in
     let small = whole.costs-small g.M.TotalOrder.before g.M.Measure.none g.M.Measure.join t c.args.limit g.M.TotalOrder.asym g.M.TotalOrder.chain g.M.Measure.ticks g.met.M.Measure.nothing g.met.M.Measure.adds (chosen g at).0 (selection-is g at) in
-    let all = c.block-count-blocks.ensures in
-    omega (arith, small, ap g.M.Measure.ticks (chosen g at).2, c.ticks.ensures, c.running-costs-costs.ensures c.block-count-blocks.result (omega (arith, all)), running_small t c.block-count-blocks.result (omega (arith, all)), all, t.count)
+    let all = c.block_count-blocks.ensures in
+    omega (arith, small, ap g.M.Measure.ticks (chosen g at).2, c.ticks.ensures, c.running_costs-costs.ensures c.block_count-blocks.result (omega (arith, all)), running_small t c.block_count-blocks.result (omega (arith, all)), all, t.count)
 
 pub returns : goal.returns
 returns g c =
@@ -149,9 +149,9 @@ returns g c =
     let word : l.points ≡ s.word = omega (arith, last.2, empty) in
     let bare : walk.longest_in t l.end last.0.word ≡ 0 = ap (λ n. walk.longest_in t n last.0.word) end in
     let longest : l.longest ≡ longest_of t (told s.word) = omega (arith, last.3, bare) in
-    let all = c.block-count-blocks.ensures in
-    let cost : get_or c.running-costs-costs.result c.block-count-blocks.result 0 + c.ticks.result ≡ cost_of t (told s.word) =
-    ap₂ ◌+◌ (c.running-costs-costs.ensures c.block-count-blocks.result (omega (arith, all)) ∙ ap (cost_before (cost_of_block t)) (all ∙ add-one (point_count t))) (c.ticks.ensures ∙ ap g.M.Measure.ticks (sym (chosen g at).2))
+    let all = c.block_count-blocks.ensures in
+    let cost : get_or c.running_costs-costs.result c.block_count-blocks.result 0 + c.ticks.result ≡ cost_of t (told s.word) =
+    ap₂ ◌+◌ (c.running_costs-costs.ensures c.block_count-blocks.result (omega (arith, all)) ∙ ap (cost_before (cost_of_block t)) (all ∙ add-one (point_count t))) (c.ticks.ensures ∙ ap g.M.Measure.ticks (sym (chosen g at).2))
     ∙ whole.costs before none join t limit asym chain g.M.Measure.ticks g.met.M.Measure.nothing g.met.M.Measure.adds s is in
     let same = whole.told_same before none join t limit s l.points (ones l.points) c.in-Some.value _ l.longest word (ap ones word ∙ whole.numbered before none join t limit asym chain s is) (sym (chosen g at).2) cost longest in
     record {

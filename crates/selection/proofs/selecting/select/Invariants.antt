@@ -1,4 +1,4 @@
-use Rattle.std.proofs.Common.{◌≡◌, ℕ, suc, ◌+◌, ◌≤◌, max, Some, None, Option}
+use Rattle.std.proofs.Common.{◌≡◌, ℕ, suc, ◌+◌, ◌≤◌, max, Some, Option}
 use Rattle.tasks.specs.Tasks.{point_count}
 use Rattle.selection.specs.Linked.{selected, Linked}
 use Rattle.selection.specs.Selections.{Chosen}

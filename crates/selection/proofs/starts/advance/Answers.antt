@@ -1,21 +1,20 @@
-use Rattle.std.proofs.Common.{◌≡◌, ℕ, zero, suc, ◌+◌, ◌≤◌, true, cond, List, ◌∷◌, is_ok, Some, None, sym, refl, ap, ◌∙◌, subst, ap₂, add-one, arith}
+use Rattle.std.proofs.Common.{◌≡◌, suc, ◌+◌, ◌≤◌, true, cond, ◌∷◌, is_ok, sym, ap, ◌∙◌, subst, add-one, arith}
 use Rattle.std.proofs.lemmas.Bool.Decides.{nat_tests}
 use Rattle.std.specs.List.Sorted.{IsPermutation}
 use Rattle.heap.specs.Held.{size, room, held, Good}
-use Rattle.selection.specs.declared.candidate.Candidate.{Candidate}
 use Rattle.selection.specs.Candidates.{sooner}
 use Rattle.selection.specs.Linked.{Holds}
 use Rattle.selection.proofs.Steps as steps
 use Rattle.selection.proofs.starts.advance.Given as given
 use Rattle.selection.proofs.starts.advance.Goals as goal
-use Rattle.selection.proofs.starts.advance.Goals.{Joined-value, in-Some, in-default}
+use Rattle.selection.proofs.starts.advance.Goals.{Joined-value, in-Some, in_default}
 
 -- the heap with the candidate of the new start
 record Grown (g : given.Over) (c : Joined-value g) : Type 0 where
-  holds : Holds g.M.TotalOrder.before g.M.Measure.none g.M.Measure.join c.args.task.now c.args.limit (suc c.args.end) c.args.end (held c.match-value.alloc)
-  good : Good (sooner g.M.TotalOrder.before) c.match-value.alloc
-  room : room c.match-value.alloc ≡ room c.args.heap.now
-  size : size c.match-value.alloc ≤ size c.args.heap.now + 1
+  holds : Holds g.M.TotalOrder.before g.M.Measure.none g.M.Measure.join c.args.task.now c.args.limit (suc c.args.end) c.args.end (held c.match-value.heap)
+  good : Good (sooner g.M.TotalOrder.before) c.match-value.heap
+  room : room c.match-value.heap ≡ room c.args.heap.now
+  size : size c.match-value.heap ≤ size c.args.heap.now + 1
 
 grown : (g : given.Over) (c : Joined-value g) → Grown g c
 grown g c =
@@ -39,8 +38,8 @@ grown g c =
             room = ap room w.heap-is ∙ p.room;
             size = omega (arith, ap size w.heap-is, more);
           }
-      | in-default w ↦ record {
-        holds = subst (λ z. Holds before none join t limit (suc c.args.end) c.args.end (held z)) (sym w.heap-is) (steps.put-none before none join t limit g.M.TotalOrder.asym g.M.TotalOrder.chain c.args.end (held h) (sym c.requires.value ∙ w.in-default.is) c.requires.holds);
+      | in_default w ↦ record {
+        holds = subst (λ z. Holds before none join t limit (suc c.args.end) c.args.end (held z)) (sym w.heap-is) (steps.put-none before none join t limit g.M.TotalOrder.asym g.M.TotalOrder.chain c.args.end (held h) (sym c.requires.value ∙ w.in_default.is) c.requires.holds);
         good = subst (Good (sooner before)) (sym w.heap-is) c.requires.good;
         room = ap room w.heap-is;
         size = omega (arith, ap size w.heap-is);
@@ -50,9 +49,9 @@ grown g c =
 pub candidate-requires : goal.candidate-requires
 candidate-requires g c = record { start = c.requires.end; reached = steps.value-reached g.M.TotalOrder.before g.M.Measure.none g.M.Measure.join c.args.task.now c.args.limit g.M.TotalOrder.asym g.M.TotalOrder.chain c.args.end c.in-Some.v c.requires.end (sym c.requires.value ∙ c.in-Some.is) }
 
-pub in-reach-requires : goal.in-reach-requires
-in-reach-requires g c =
-    let m = grown g (goal.at.in-reach-requires g c).Joined-value in
+pub in_reach-requires : goal.in_reach-requires
+in_reach-requires g c =
+    let m = grown g (goal.at.in_reach-requires g c).Joined-value in
     record { good = m.good; starts = λ x h. omega (arith, (m.holds.sound x h).0); end = c.requires.end; costs = c.requires.costs }
 
 pub returns : goal.returns
@@ -64,12 +63,12 @@ returns g c =
     let t = c.args.task.now in
     let limit = c.args.limit in
     let k = c.args.end in
-    let r = c.in-reach.ensures in
-    let holds = steps.clears before none join t limit g.M.TotalOrder.asym g.M.TotalOrder.chain k (held c.match-value.alloc) (held c.in-reach.new.heap) c.in-reach.result r.cleared m.holds in
+    let r = c.in_reach.ensures in
+    let holds = steps.clears before none join t limit g.M.TotalOrder.asym g.M.TotalOrder.chain k (held c.match-value.heap) (held c.in_reach.new.heap) c.in_reach.result r.cleared m.holds in
     record {
       good = r.good;
       room = r.room ∙ m.room;
       size = omega (arith, r.size, m.size);
-      holds = subst (λ n. Holds before none join t limit n n (held c.in-reach.new.heap)) (sym (add-one k)) holds;
-      picked = steps.picks before none join t limit g.M.TotalOrder.asym g.M.TotalOrder.chain k (held c.in-reach.new.heap) c.in-reach.result holds r.cleared.first;
+      holds = subst (λ n. Holds before none join t limit n n (held c.in_reach.new.heap)) (sym (add-one k)) holds;
+      picked = steps.picks before none join t limit g.M.TotalOrder.asym g.M.TotalOrder.chain k (held c.in_reach.new.heap) c.in_reach.result holds r.cleared.first;
     }

@@ -1,10 +1,8 @@
-use Rattle.std.proofs.Common.{◌≡◌, false, ◌⊎◌, Some, None, sym, refl, ap, ◌∙◌, subst, inl, inr, ⊎_elim, arith}
-use Rattle.std.specs.List.{ContainsAt as Has}
+use Rattle.std.proofs.Common.{◌≡◌, false, Some, sym, ap, ◌∙◌, subst, inl, inr, ⊎_elim, arith}
 use Rattle.std.proofs.lemmas.Option.{MatchOption-at_some}
 use Rattle.std.proofs.lemmas.List.Sorted.{IsPermutation-sym}
 use Rattle.std.proofs.ByRecursion.{has_shuffled}
-use Rattle.heap.specs.Held.{size, room, held, Good}
-use Rattle.selection.specs.declared.candidate.Candidate.{Candidate}
+use Rattle.heap.specs.Held.{held}
 use Rattle.selection.specs.Limits.{within}
 use Rattle.selection.specs.Linked.{reaches}
 use Rattle.selection.proofs.Items.{has_later, has_cases}
@@ -23,7 +21,7 @@ loop-top-preserved g c =
     let new = held c.pop.new.self in
     let gave : c.pop.result ≡ Some top = c.pop.ensures.value ∙ sym c.in-Some.ensures.value in
     let moved = (MatchOption-at_some _ _ top gave c.pop.ensures.held).1 in
-    let far : reaches c.args.task.now c.args.limit c.args.end top.start ≡ false = ap (within c.args.limit) (sym c.stretch.ensures) ∙ sym c.is-within.ensures ∙ c.if-is-within.false in (
+    let far : reaches c.args.task.now c.args.limit c.args.end top.start ≡ false = ap (within c.args.limit) (sym c.stretch.ensures) ∙ sym c.is_within.ensures ∙ c.if-is_within.false in (
       c.pop.ensures.good,
       λ x h. l.invariant.1 x (has_shuffled _ _ x (IsPermutation-sym _ _ moved) (has_later top x new h)),
       λ x h. ⊎_elim

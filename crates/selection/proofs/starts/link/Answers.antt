@@ -1,4 +1,4 @@
-use Rattle.std.proofs.Common.{◌≡◌, suc, ◌+◌, ◌<◌, ◌≤◌, length, Some, None, sym, refl, ap, ◌∙◌, subst, add-one, arith, length-set}
+use Rattle.std.proofs.Common.{◌≡◌, suc, ◌+◌, ◌<◌, length, Some, None, sym, ap, ◌∙◌, subst, add-one, arith, length-set}
 use Rattle.tasks.specs.Tasks.{point_count}
 use Rattle.selection.specs.Linked.{value_of, selected, Linked, Picked}
 use Rattle.selection.proofs.Steps as steps
@@ -15,7 +15,7 @@ loop-end-preserved g c =
     let l = c.loop-end in
     let k = l.end in
     let r = c.advance.ensures in
-    let room : k < length l.starts = omega (arith, c.loop-end-test.true, c.block-count-end-end.ensures, t.count, l.invariant.3) in
+    let room : k < length l.starts = omega (arith, c.loop-end-test.true, c.block_count-end-end.ensures, t.count, l.invariant.3) in
     let next : selected before none join t limit (k + 1) ≡ selected before none join t limit (suc k) = ap (selected before none join t limit) (add-one k) in
     elim c.match-advance.branch [
       | in-Some w ↦
@@ -45,7 +45,7 @@ pub returns : goal.returns
 returns g c =
     let t = c.args.task.now in
     let l = c.loop-end in
-    let end : l.end ≡ point_count t + 1 = omega (arith, c.loop-end-test.false, l.auto.end-end, c.block-count-end-end.ensures) in
+    let end : l.end ≡ point_count t + 1 = omega (arith, c.loop-end-test.false, l.auto.end-end, c.block_count-end-end.ensures) in
     let before = g.M.TotalOrder.before in
     let none = g.M.Measure.none in
     let join = g.M.Measure.join in
