@@ -5,7 +5,7 @@ use Rattle.std.proofs.ByRecursion.{all-has, All-weaker}
 use Rattle.std.proofs.lemmas.Int.{ints}
 use Rattle.std.proofs.lemmas.Bool.{cases_lt, cond-true, cond-false}
 use Rattle.std.specs.List.Sorted.{IsPermutation}
-use Rattle.std.specs.List.{ContainsAt as Has, AllByRecursion as All}
+use Rattle.std.specs.List.{ContainsAt as Has, AllByRecursion}
 use Rattle.tasks.specs.declared.timings.Timing.{Timing}
 use Rattle.rules.specs.declared.multiple.Multiple.{Multiple}
 use Rattle.rules.specs.Peaks.{better, peak}
@@ -38,7 +38,7 @@ module _ (ts : List Timing) (p : ℕ) where
   slack_under met t xs sum a e h = let d = carried_demand ts p met t xs h a in omega (arith, ints)
 
   -- up to the least multiple it is no less
-  slack_over : (met t : ℕ) (xs : List Multiple) (sum : ℕ) → Holds ts p met xs → sum ≡ sum_by (carried ts) xs → All (λ x. t ≤ x.at) xs → (pos t -ℤ pos sum) ≤ℤ slack_at ts p t
+  slack_over : (met t : ℕ) (xs : List Multiple) (sum : ℕ) → Holds ts p met xs → sum ≡ sum_by (carried ts) xs → AllByRecursion (λ x. t ≤ x.at) xs → (pos t -ℤ pos sum) ≤ℤ slack_at ts p t
   unfolding slack_at
   slack_over met t xs sum a e h = let d = demand_carried ts p met t xs h a in omega (arith, ints)
 
@@ -54,17 +54,17 @@ module _ (ts : List Timing) (p : ℕ) where
       record { holds = a; carries = e; early = omega (arith, deadline-first ts p); first = refl; most = h ∙ same_z _ _ over under }
 
   -- between the multiples the slack rises, and at the last moment of the stretch it is the moment less what is carried
-  rises : (met m : ℕ) (xs : List Multiple) (sum : ℕ) → Holds ts p met xs → sum ≡ sum_by (carried ts) xs → All (λ x. m ≤ x.at) xs → (t : ℕ) → met < t → t < m → slack_at ts p t <ℤ slack_at ts p (suc t)
+  rises : (met m : ℕ) (xs : List Multiple) (sum : ℕ) → Holds ts p met xs → sum ≡ sum_by (carried ts) xs → AllByRecursion (λ x. m ≤ x.at) xs → (t : ℕ) → met < t → t < m → slack_at ts p t <ℤ slack_at ts p (suc t)
   rises met m xs sum a e least t l h =
       let under = slack_under met t xs sum a e l in
       let over = slack_over met (suc t) xs sum a e (All-weaker (λ x. m ≤ x.at) (λ x. suc t ≤ x.at) (λ x k. omega arith) xs least) in
       omega (arith, ints)
 
-  slack_there : (met m : ℕ) (xs : List Multiple) (sum : ℕ) → Holds ts p met xs → sum ≡ sum_by (carried ts) xs → All (λ x. m ≤ x.at) xs → met < m → (pos m -ℤ pos sum) ≡ slack_at ts p m
+  slack_there : (met m : ℕ) (xs : List Multiple) (sum : ℕ) → Holds ts p met xs → sum ≡ sum_by (carried ts) xs → AllByRecursion (λ x. m ≤ x.at) xs → met < m → (pos m -ℤ pos sum) ≡ slack_at ts p m
   slack_there met m xs sum a e least h = same_z _ _ (slack_over met m xs sum a e least) (slack_under met m xs sum a e h)
 
   -- one multiple more
-  pub walk_meets : (x y : Multiple) (xs ys : List Multiple) (sum : ℕ) (tolerance : ℤ) (moment met : ℕ) (tolerance' : ℤ) (moment' : ℕ) → Has xs x → All (λ z. x.at ≤ z.at) xs → x.at < deadline_at ts p → y.task ≡ x.task → y.at ≡ x.at + (task_of ts x).period → IsPermutation (y ∷ xs) (x ∷ ys) → tolerance' ≡ cond (lt_z tolerance (pos x.at -ℤ pos sum)) (pos x.at -ℤ pos sum) tolerance → moment' ≡ cond (lt_z tolerance (pos x.at -ℤ pos sum)) x.at moment → Walked ts p xs sum tolerance moment met → Walked ts p ys (sum + (task_of ts x).cost) tolerance' moment' x.at
+  pub walk_meets : (x y : Multiple) (xs ys : List Multiple) (sum : ℕ) (tolerance : ℤ) (moment met : ℕ) (tolerance' : ℤ) (moment' : ℕ) → Has xs x → AllByRecursion (λ z. x.at ≤ z.at) xs → x.at < deadline_at ts p → y.task ≡ x.task → y.at ≡ x.at + (task_of ts x).period → IsPermutation (y ∷ xs) (x ∷ ys) → tolerance' ≡ cond (lt_z tolerance (pos x.at -ℤ pos sum)) (pos x.at -ℤ pos sum) tolerance → moment' ≡ cond (lt_z tolerance (pos x.at -ℤ pos sum)) x.at moment → Walked ts p xs sum tolerance moment met → Walked ts p ys (sum + (task_of ts x).cost) tolerance' moment' x.at
   walk_meets x y xs ys sum tolerance moment met tolerance' moment' has least early e h moved more later w =
       let f = slack_at ts p in
       let m = x.at in
@@ -95,7 +95,7 @@ module _ (ts : List Timing) (p : ℕ) where
           (cases_lt met m)
 
   -- no multiple below the deadline is left, and the deadline has more
-  pub walk_ends : (xs : List Multiple) (sum : ℕ) (tolerance : ℤ) (moment met : ℕ) → All (λ z. deadline_at ts p ≤ z.at) xs → tolerance <ℤ (pos (deadline_at ts p) -ℤ pos sum) → Walked ts p xs sum tolerance moment met → (deadline_at ts p ≡ peak (slack_at ts p) (deadline_at ts p)) × ((pos (deadline_at ts p) -ℤ pos sum) ≡ slack_at ts p (peak (slack_at ts p) (deadline_at ts p)))
+  pub walk_ends : (xs : List Multiple) (sum : ℕ) (tolerance : ℤ) (moment met : ℕ) → AllByRecursion (λ z. deadline_at ts p ≤ z.at) xs → tolerance <ℤ (pos (deadline_at ts p) -ℤ pos sum) → Walked ts p xs sum tolerance moment met → (deadline_at ts p ≡ peak (slack_at ts p) (deadline_at ts p)) × ((pos (deadline_at ts p) -ℤ pos sum) ≡ slack_at ts p (peak (slack_at ts p) (deadline_at ts p)))
   walk_ends xs sum tolerance moment met least h w =
       let f = slack_at ts p in
       let d = deadline_at ts p in

@@ -7,7 +7,7 @@ use Rattle.std.proofs.lemmas.List.Sorted.{sum_by-IsPermutation}
 use Rattle.std.proofs.lemmas.List.Sums.{sum_by-cons, sum_by_more}
 use Rattle.std.proofs.lemmas.Bool.Decides.{nat_tests}
 use Rattle.std.specs.List.Sorted.{IsPermutation}
-use Rattle.std.specs.List.{ContainsAt as Has, AllByRecursion as All}
+use Rattle.std.specs.List.{ContainsAt as Has, AllByRecursion}
 use Rattle.heap.specs.Heaps.{Least}
 use Rattle.tasks.specs.declared.timings.Timing.{Timing}
 use Rattle.rules.specs.declared.multiple.Multiple.{Multiple}
@@ -17,14 +17,14 @@ use Rattle.rules.specs.Tables.{no_timing}
 use Rattle.rules.specs.Walks.{task_of, Next, carried, Holds}
 use Rattle.rules.specs.Demands.{demand-small}
 
-sums_le : {X : Type 0} (f g : X → ℕ) (xs : List X) → All (λ x. f x ≤ g x) xs → sum_by f xs ≤ sum_by g xs
+sums_le : {X : Type 0} (f g : X → ℕ) (xs : List X) → AllByRecursion (λ x. f x ≤ g x) xs → sum_by f xs ≤ sum_by g xs
 sums_le f g [] h = le_refl _
 sums_le f g (x ∷ xs) h = omega (arith, sum_by-cons f x xs, sum_by-cons g x xs, h.0, sums_le f g xs h.1)
 
 no_sooner : (x y : Multiple) → sooner y x ≡ false → x.at ≤ y.at
 no_sooner x y h = grind (arith, nat_tests)
 
-pub least_at : (x : Multiple) (xs : List Multiple) → Least sooner x xs → All (λ y. x.at ≤ y.at) xs
+pub least_at : (x : Multiple) (xs : List Multiple) → Least sooner x xs → AllByRecursion (λ y. x.at ≤ y.at) xs
 least_at x xs h = All-weaker (λ y. sooner y x ≡ false) (λ y. x.at ≤ y.at) (no_sooner x) xs h
 
 module _ (ts : List Timing) where
@@ -58,11 +58,11 @@ module _ (ts : List Timing) where
   carried_demand n met t xs h a =
       omega (arith, a.all t, sums_le (carried ts) (λ x. load t (task_of ts x)) xs (All-weaker (Next ts n met) (λ x. carried ts x ≤ load t (task_of ts x)) (λ x. carried_asked n met t x h) xs a.each))
 
-  pub demand_carried : (n met t : ℕ) (xs : List Multiple) → All (λ x. t ≤ x.at) xs → Holds ts n met xs → demand (take n ts) t ≤ sum_by (carried ts) xs
+  pub demand_carried : (n met t : ℕ) (xs : List Multiple) → AllByRecursion (λ x. t ≤ x.at) xs → Holds ts n met xs → demand (take n ts) t ≤ sum_by (carried ts) xs
   demand_carried n met t xs h a =
       omega (arith, a.all t, sums_le (λ x. load t (task_of ts x)) (carried ts) xs (both xs h a.each))
     where
-      both : (ys : List Multiple) → All (λ x. t ≤ x.at) ys → All (Next ts n met) ys → All (λ x. load t (task_of ts x) ≤ carried ts x) ys
+      both : (ys : List Multiple) → AllByRecursion (λ x. t ≤ x.at) ys → AllByRecursion (Next ts n met) ys → AllByRecursion (λ x. load t (task_of ts x) ≤ carried ts x) ys
       both [] h a = tt
       both (y ∷ ys) h a = (asked_carried n met t y h.0 a.0, both ys h.1 a.1)
 
@@ -124,7 +124,7 @@ module _ (ts : List Timing) where
         }
 
   -- the least multiple gives way to the next one of its task
-  pub replaces : (n met : ℕ) (x y : Multiple) (xs ys : List Multiple) → Has xs x → All (λ z. x.at ≤ z.at) xs → y.task ≡ x.task → y.at ≡ x.at + (task_of ts x).period → IsPermutation (y ∷ xs) (x ∷ ys) → Holds ts n met xs → Holds ts n x.at ys × (sum_by (carried ts) ys ≡ sum_by (carried ts) xs + (task_of ts x).cost)
+  pub replaces : (n met : ℕ) (x y : Multiple) (xs ys : List Multiple) → Has xs x → AllByRecursion (λ z. x.at ≤ z.at) xs → y.task ≡ x.task → y.at ≡ x.at + (task_of ts x).period → IsPermutation (y ∷ xs) (x ∷ ys) → Holds ts n met xs → Holds ts n x.at ys × (sum_by (carried ts) ys ≡ sum_by (carried ts) xs + (task_of ts x).cost)
   replaces n met x y xs ys has least e h moved a =
       let at = all-has (Next ts n met) xs x a.each has in
       let old = later xs least a.each at.after in (
@@ -137,6 +137,6 @@ module _ (ts : List Timing) where
         omega (arith, sum_by-IsPermutation (carried ts) (y ∷ xs) (x ∷ ys) moved, sum_by-cons (carried ts) y xs, sum_by-cons (carried ts) x ys, carried_more x y e h),
       )
     where
-      later : (zs : List Multiple) → All (λ z. x.at ≤ z.at) zs → All (Next ts n met) zs → met ≤ x.at → All (Next ts n x.at) zs
+      later : (zs : List Multiple) → AllByRecursion (λ z. x.at ≤ z.at) zs → AllByRecursion (Next ts n met) zs → met ≤ x.at → AllByRecursion (Next ts n x.at) zs
       later [] l b k = tt
       later (z ∷ zs) l b k = (next_again n met x.at z k l.0 b.0, later zs l.1 b.1 k)

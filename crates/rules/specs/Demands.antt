@@ -1,5 +1,5 @@
 -- Loads, demands and slacks: their bounds, and what two tables share.
-use Rattle.std.specs.Prelude.{◌≡◌, ℕ, ◌+◌, ◌-◌, ◌*◌, ◌/◌, ◌<◌, ◌≤◌, List, [], ◌∷◌, length, get_or, take, ℤ, pos, ◌-ℤ◌, ◌≤ℤ◌, slice_index_or}
+use Rattle.std.specs.Prelude.{◌≡◌, ℕ, ◌+◌, ◌-◌, ◌*◌, ◌/◌, ◌<◌, ◌≤◌, List, [], ◌∷◌, length, get_or, take, pos, ◌-ℤ◌, ◌≤ℤ◌, slice_index_or}
 use Rattle.std.proofs.Common.{ap, ◌∙◌, sym, subst, mul-le-mul, mul-le-mul_right, div-lt_iff_lt-mul, le_refl, arith, get_or-take}
 use Rattle.std.proofs.lemmas.List.Elements.{AllZip-get_or}
 use Rattle.std.proofs.ByRecursion.{All-from_get_or, sum_by_le}

@@ -1,6 +1,6 @@
 -- What the heap of the next multiples says of the demand.
 use Rattle.std.specs.Prelude.{◌≡◌, ℕ, ◌+◌, ◌*◌, ◌/◌, ◌<◌, ◌≤◌, List, take, sum_by, slice_index_or}
-use Rattle.std.specs.List.{AllByRecursion as All}
+use Rattle.std.specs.List.{AllByRecursion}
 use Rattle.tasks.specs.declared.timings.Timing.{Timing}
 use Rattle.rules.specs.declared.multiple.Multiple.{Multiple}
 use Rattle.rules.specs.Slacks.{load, demand}
@@ -24,5 +24,5 @@ module _ (ts : List Timing) where
 
   -- the next multiples of the first n tasks, one for each task
   pub record Holds (n met : ℕ) (xs : List Multiple) : Type 0 where
-    pub each : All (Next n met) xs
+    pub each : AllByRecursion (Next n met) xs
     pub all : (t : ℕ) → sum_by (λ x. load t (task_of x)) xs ≡ demand (take n ts) t

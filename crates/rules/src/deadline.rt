@@ -1,9 +1,9 @@
+ghost use Rattle.std.specs.Prelude.{◌≤ℤ◌};
+ghost use Rattle.std.proofs.Common.{ap, ◌∙◌, subst, rules};
 ghost use Rattle.rules.specs.Slacks.{slack_at};
 ghost use Rattle.rules.specs.Tables.{deadline_at};
 ghost use Rattle.rules.specs.Tolerances.{deadline_tolerance};
-ghost use Rattle.std.proofs.Common.{ap, ◌∙◌, subst, rules};
 ghost use Rattle.rules.specs.Demands.{deadline_agrees, slack_agrees, deadline-kept, slack_falls, deadline-small, slack_low, slack_high};
-ghost use Rattle.std.specs.Prelude.{◌≤ℤ◌};
 
 use crate::answer::Answer;
 use crate::rule::Rule;

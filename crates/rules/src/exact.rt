@@ -1,5 +1,6 @@
 ghost use Rattle.std.specs.Prelude.{◌≡◌, if◌then◌else◌, sum_by, int_lt};
 ghost use Rattle.std.proofs.Common.{ap, ◌∙◌, arith, rules};
+ghost use Rattle.std.proofs.lemmas.Int.{ints};
 ghost use Rattle.heap.specs.Held.{size, room, held, Good};
 ghost use Rattle.rules.specs.Multiples.{sooner};
 ghost use Rattle.rules.specs.Slacks.{slack_at};
@@ -9,7 +10,6 @@ ghost use Rattle.rules.specs.Walks.{Holds, carried};
 ghost use Rattle.rules.specs.Peaks.{peak};
 ghost use Rattle.rules.specs.Demands.{deadline_agrees, slack_agrees, deadline-kept, deadline-first, slack_falls, deadline-small, slack_low, slack_high};
 ghost use Rattle.rules.specs.PeaksLemmas.{peak-same, peak-from, peak-within, peak-most};
-ghost use Rattle.std.proofs.lemmas.Int.{ints};
 
 use crate::answer::Answer;
 use crate::multiple::Multiple;

@@ -1,10 +1,10 @@
 // Layers that stand on any rule and are rules again.
 ghost use Rattle.std.specs.Prelude.{◌≡◌, ◌≤◌, is_ok, IfOk, IfErr, nat_le};
 ghost use Rattle.std.proofs.Common.{ap, arith};
+ghost use Rattle.std.proofs.lemmas.Int.{ints, clamps};
 ghost use Rattle.tasks.specs.declared.refusals.Refusal.TheVariants.{OutOfRange};
 ghost use Rattle.rules.specs.Layers.{reserved, capped};
 ghost use Rattle.rules.specs.Ints.{reserved_mono, capped_mono};
-ghost use Rattle.std.proofs.lemmas.Int.{ints, clamps};
 
 use crate::answer::Answer;
 use crate::rule::Rule;

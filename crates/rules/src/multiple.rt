@@ -1,5 +1,5 @@
-ghost use Rattle.rules.specs.Multiples.{sooner};
 ghost use Rattle.std.proofs.Common.{rules};
+ghost use Rattle.rules.specs.Multiples.{sooner, sooner-asym, sooner-chain};
 
 use heap::TotalOrder;
 
@@ -15,7 +15,7 @@ impl TotalOrder for Multiple {
 
     ghost says = { Prim.search rules };
 
-    ghost asym = { Prim.search rules };
+    ghost asym = { sooner-asym };
 
-    ghost chain = { Prim.search rules };
+    ghost chain = { sooner-chain };
 }

@@ -2,15 +2,15 @@ use Rattle.std.proofs.Common.{◌≡◌, ◌+◌, ◌<◌, true, cond, ◌∷◌
 use Rattle.std.proofs.lemmas.List.{get_or_read}
 use Rattle.std.proofs.lemmas.Bool.Decides.{nat_tests}
 use Rattle.std.specs.List.Sorted.{IsPermutation}
-use Rattle.heap.specs.Held.{size, room, held}
+use Rattle.heap.specs.Held.{size, held}
 use Rattle.tasks.specs.declared.timings.Timing.{Timing}
 use Rattle.rules.specs.declared.multiple.Multiple.{Multiple}
 use Rattle.rules.specs.Tables.{no_timing}
 use Rattle.rules.proofs.Steps.{carried_small, puts}
 use Rattle.rules.proofs.exact.release.Goals as goal
 
-pub overflow-add-demand : goal.overflow-add-demand
-overflow-add-demand c =
+pub overflow_add-demand : goal.overflow_add-demand
+overflow_add-demand c =
     let l = c.loop-i in
     let small = carried_small c.args.tasks.now l.i 0 (held l.heap) (omega (arith, c.requires.asked.few, c.requires.asked.last)) (omega arith) l.invariant.3 in
     omega (arith, l.invariant.4, small, c.index-tasks-i-in-loop-i.result.work.1)

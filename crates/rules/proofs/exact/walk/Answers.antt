@@ -1,10 +1,10 @@
-use Rattle.std.proofs.Common.{◌≡◌, ◌+◌, ◌-◌, ◌<◌, ◌≤◌, cond, length, ℤ, pos, ◌-ℤ◌, ◌≤ℤ◌, ◌<ℤ◌, Some, sym, refl, ap, ◌∙◌, subst, arith, w64, SFits, rules}
+use Rattle.std.proofs.Common.{◌≡◌, ◌+◌, ◌<◌, ◌≤◌, cond, length, pos, ◌-ℤ◌, ◌≤ℤ◌, ◌<ℤ◌, Some, sym, refl, ap, ◌∙◌, subst, arith, w64, SFits, rules}
 use lib.Signed.{lt_z}
 use Rattle.std.proofs.ByRecursion.{all-has, All-weaker}
 use Rattle.std.proofs.lemmas.List.{get_or_read}
 use Rattle.std.proofs.lemmas.Option.{MatchOption-at_some}
 use Rattle.std.proofs.lemmas.Int.{ints, to_z-of_z}
-use Rattle.heap.specs.Held.{size, held}
+use Rattle.heap.specs.Held.{held}
 use Rattle.tasks.specs.declared.timings.Timing.{Timing}
 use Rattle.rules.specs.declared.multiple.Multiple.{Multiple}
 use Rattle.rules.specs.Tables.{no_timing, deadline_at}
@@ -12,7 +12,7 @@ use Rattle.rules.specs.Walks.{Next, task_of}
 use Rattle.rules.proofs.Judging.{Walked, sum-small, walk_starts, walk_meets, walk_ends, walk_stops}
 use Rattle.rules.proofs.Steps.{carried_small, least_at}
 use Rattle.rules.proofs.exact.walk.Goals as goal
-use Rattle.rules.proofs.exact.walk.Goals.{After-deadline-deadline, At-loop-best, After-replace-top}
+use Rattle.rules.proofs.exact.walk.Goals.{After-deadline-deadline, At-loop-best, After-replace_top}
 
 by-is : (c : After-deadline-deadline) → c.deadline-deadline.result ≡ deadline_at c.args.tasks.now c.args.place
 by-is c =
@@ -28,7 +28,7 @@ left-requires c =
 
 pub loop-best-init : goal.loop-best-init
 loop-best-init c =
-    let is = to_z-of_z w64 c.left.result (record { sfits = c.left.type-inv }) ∙ c.left.ensures in
+    let is = to_z-of_z w64 c.left.result (record { sfits = c.left.type_inv }) ∙ c.left.ensures in
     (c.requires.good, c.requires.size, (0, walk_starts c.args.tasks.now c.args.place (held c.args.heap.now) c.args.first _ c.requires.holds c.requires.demand is))
 
 pub left-requires-in-loop-best : goal.left-requires-in-loop-best
@@ -48,21 +48,21 @@ returns-then-deadline-next c =
     let far = All-weaker (λ (z : Multiple). c.in-Some.next.at ≤ z.at) (λ (z : Multiple). deadline_at ts p ≤ z.at) (λ z h. omega (arith, h, by, c.if-deadline-next.true)) (held l.heap) least in
     let slack = ap (λ t. pos t -ℤ pos l.demand) by in
     let fits : SFits w64 l.best.tolerance = search rules in
-    let more : l.best.tolerance <ℤ c.left-in-loop-best.result = let right : SFits w64 c.left-in-loop-best.result = record { sfits = c.left-in-loop-best.type-inv } in let h = simp to_z-of_z at c.loop-best-test.true in grind (arith, ints) in
+    let more : l.best.tolerance <ℤ c.left-in-loop-best.result = let right : SFits w64 c.left-in-loop-best.result = record { sfits = c.left-in-loop-best.type_inv } in let h = simp to_z-of_z at c.loop-best-test.true in grind (arith, ints) in
     let ends = walk_ends ts p (held l.heap) l.demand l.best.tolerance l.best.moment l.invariant.2.0 far (subst (λ v. l.best.tolerance <ℤ v) (c.left-in-loop-best.ensures ∙ slack) more) l.invariant.2.1 in
-    let is = to_z-of_z w64 c.left-then-deadline-next.result (record { sfits = c.left-then-deadline-next.type-inv }) ∙ c.left-then-deadline-next.ensures ∙ slack in
+    let is = to_z-of_z w64 c.left-then-deadline-next.result (record { sfits = c.left-then-deadline-next.type_inv }) ∙ c.left-then-deadline-next.ensures ∙ slack in
     record { tolerance = is ∙ ends.1; moment = by ∙ ends.0 }
 
 pub left-requires-in-loop-best-2 : goal.left-requires-in-loop-best-2
 left-requires-in-loop-best-2 c = demand-fits (goal.at.left-requires-in-loop-best-2 c).At-loop-best
 
-next-there : (c : After-replace-top) → c.in-Some.next.task < length c.args.tasks.now
+next-there : (c : After-replace_top) → c.in-Some.next.task < length c.args.tasks.now
 next-there c =
     let w = c.loop-best.invariant.2.1 in
     let at = all-has (Next c.args.tasks.now c.args.place c.loop-best.invariant.2.0) (held c.loop-best.heap) c.in-Some.next w.holds.each c.in-Some.ensures.cases.0 in
     omega (arith, at.there, c.requires.asked.last)
 
-cost-is : (c : After-replace-top) → c.from-demand.result ≡ (task_of c.args.tasks.now c.in-Some.next).cost
+cost-is : (c : After-replace_top) → c.from-demand.result ≡ (task_of c.args.tasks.now c.in-Some.next).cost
 cost-is c = c.from-demand.ensures ∙ c.cost.ensures ∙ ap (λ (y : Timing). y.cost) (get_or_read c.args.tasks.now c.in-Some.next.task c.index-tasks-next.result (next-there c) c.index-tasks-next.is no_timing)
 
 pub loop-best-smaller : goal.loop-best-smaller
@@ -78,18 +78,18 @@ loop-best-preserved c =
     let l = c.loop-best in
     let x = c.in-Some.next in
     let top = c.in-Some.ensures in
-    let r = c.replace-top.ensures in
+    let r = c.replace_top.ensures in
     let y : Multiple = record { at = x.at + c.period.result; task = x.task } in
-    let gave : c.replace-top.result ≡ Some x = r.value ∙ sym top.value in
+    let gave : c.replace_top.result ≡ Some x = r.value ∙ sym top.value in
     let moved = (MatchOption-at_some _ _ x gave r.held).1 in
     let period = c.period.ensures ∙ ap (λ (z : Timing). z.period) (get_or_read ts x.task c.index-tasks-next-in-loop-best.result (next-there c) c.index-tasks-next-in-loop-best.is no_timing) in
     let step = ap (λ n. x.at + n) period in
     let early : x.at < deadline_at ts p = omega (arith, by-is at.After-deadline-deadline, c.if-deadline-next.false) in
-    let v = to_z-of_z w64 c.left-in-loop-best-2.result (record { sfits = c.left-in-loop-best-2.type-inv }) ∙ c.left-in-loop-best-2.ensures in
+    let v = to_z-of_z w64 c.left-in-loop-best-2.result (record { sfits = c.left-in-loop-best-2.type_inv }) ∙ c.left-in-loop-best-2.ensures in
     let t = c.judged-best.ensures.tolerance ∙ ap (λ z. cond (lt_z l.best.tolerance z) z l.best.tolerance) v in
     let m = c.judged-best.ensures.moment ∙ ap (λ z. cond (lt_z l.best.tolerance z) x.at l.best.moment) v in
-    let walked = walk_meets ts p x y (held l.heap) (held c.replace-top.new.self) l.demand l.best.tolerance l.best.moment l.invariant.2.0 _ _ top.cases.0 (least_at x (held l.heap) top.cases.1) early refl step moved t m l.invariant.2.1 in
-    (r.good, r.size ∙ l.invariant.1, (x.at, subst (λ n. Walked ts p (held c.replace-top.new.self) (l.demand + n) c.judged-best.result.tolerance c.judged-best.result.moment x.at) (sym (cost-is c)) walked))
+    let walked = walk_meets ts p x y (held l.heap) (held c.replace_top.new.self) l.demand l.best.tolerance l.best.moment l.invariant.2.0 _ _ top.cases.0 (least_at x (held l.heap) top.cases.1) early refl step moved t m l.invariant.2.1 in
+    (r.good, r.size ∙ l.invariant.1, (x.at, subst (λ n. Walked ts p (held c.replace_top.new.self) (l.demand + n) c.judged-best.result.tolerance c.judged-best.result.moment x.at) (sym (cost-is c)) walked))
 
 pub returns : goal.returns
 returns c =
@@ -99,6 +99,6 @@ returns c =
     let by = by-is (goal.at.returns c).After-deadline-deadline in
     let slack = ap (λ t. pos t -ℤ pos l.demand) by in
     let fits : SFits w64 l.best.tolerance = search rules in
-    let no : c.left-in-loop-best.result ≤ℤ l.best.tolerance = let right : SFits w64 c.left-in-loop-best.result = record { sfits = c.left-in-loop-best.type-inv } in let h = simp to_z-of_z at c.loop-best-test.false in grind (arith, ints) in
+    let no : c.left-in-loop-best.result ≤ℤ l.best.tolerance = let right : SFits w64 c.left-in-loop-best.result = record { sfits = c.left-in-loop-best.type_inv } in let h = simp to_z-of_z at c.loop-best-test.false in grind (arith, ints) in
     let stops = walk_stops ts p (held l.heap) l.demand l.best.tolerance l.best.moment l.invariant.2.0 (subst (λ v. v ≤ℤ l.best.tolerance) (c.left-in-loop-best.ensures ∙ slack) no) l.invariant.2.1 in
     record { tolerance = stops.1; moment = stops.0 }

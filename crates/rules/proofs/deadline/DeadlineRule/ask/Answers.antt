@@ -22,11 +22,11 @@ sum-small c h =
     let few = demand-small c.deadline-by.result (take c.loop-i.i c.args.tasks.now) (by-small c) in
     omega (arith, few, c.loop-i.invariant, length-take-le c.loop-i.i c.args.tasks.now (omega (arith, c.requires.last)))
 
-pub overflow-add-demand : goal.overflow-add-demand
-overflow-add-demand c =
-    let at = (goal.at.overflow-add-demand c).At-loop-i in
+pub overflow_add-demand : goal.overflow_add-demand
+overflow_add-demand c =
+    let at = (goal.at.overflow_add-demand c).At-loop-i in
     let small = load-small c.deadline-by.result c.index-tasks-i.result (by-small at) in
-    omega (arith, sum-small at (omega arith), c.load-of-demand.ensures, small, c.requires.few, c.requires.last)
+    omega (arith, sum-small at (omega arith), c.load_of-demand.ensures, small, c.requires.few, c.requires.last)
 
 pub loop-i-preserved : goal.loop-i-preserved
 loop-i-preserved c =
@@ -34,7 +34,7 @@ loop-i-preserved c =
     let there : c.loop-i.i < length c.args.tasks.now = omega (arith, c.requires.last) in
     let more = sum_by_more (load c.deadline-by.result) c.args.tasks.now c.loop-i.i x there in
     let same = ap (load c.deadline-by.result) c.index-tasks-i.is in
-    omega (arith, c.loop-i.invariant, c.load-of-demand.ensures, more, same)
+    omega (arith, c.loop-i.invariant, c.load_of-demand.ensures, more, same)
 
 pub left-requires : goal.left-requires
 left-requires c =
@@ -49,4 +49,4 @@ returns c =
     let end : c.loop-i.i ≡ c.args.place = omega arith in
     let all = c.loop-i.invariant ∙ ap (λ n. demand (take n c.args.tasks.now) c.deadline-by.result) end in
     let same = c.left.ensures ∙ ap (λ n. pos c.deadline-by.result -ℤ pos n) all ∙ ap (λ t. pos t -ℤ pos (demand (take c.args.place c.args.tasks.now) t)) by in
-    record { tolerance = to_z-of_z w64 c.left.result (record { sfits = c.left.type-inv }) ∙ same; moment = by }
+    record { tolerance = to_z-of_z w64 c.left.result (record { sfits = c.left.type_inv }) ∙ same; moment = by }
