@@ -26,7 +26,7 @@ pub struct Heap<'a, T> {
 impl<'a, T: TotalOrder> Heap<'a, T> {
     // An empty heap that may hold as many items as there are slots.
     pub fn new(slots: &'a mut [T]) -> Heap<'a, T>
-        ensures good { Good before result }
+        ensures good { Good T.before result }
         ensures size { size result ≡ 0 }
         ensures room { room result ≡ length slots.old }
         ensures held { held result ≡ [] }
@@ -38,7 +38,7 @@ impl<'a, T: TotalOrder> Heap<'a, T> {
 
     // The number of items.
     pub fn len(&self) -> usize
-        requires { Good before self.now }
+        requires { Good T.before self.now }
         ensures size { result ≡ size self.now }
         ensures held { result ≡ length (held self.now) }
     {

@@ -13,8 +13,8 @@ use crate::{Full, Heap};
 impl<'a, T: TotalOrder> Heap<'a, T> {
     // Puts x among the items, or refuses where every slot is in use, and then changes nothing.
     pub fn push(&mut self, x: T) -> Result<(), Full>
-        requires { Good before self.old }
-        ensures good { Good before self.new }
+        requires { Good T.before self.old }
+        ensures good { Good T.before self.new }
         ensures test { is_ok result ≡ nat_lt (size self.old) (room self.old) }
         ensures size { size self.new ≡ (if is_ok result then size self.old + 1 else size self.old) }
         ensures room { room self.new ≡ room self.old }
@@ -35,9 +35,9 @@ impl<'a, T: TotalOrder> Heap<'a, T> {
 
     // A least item.
     pub fn peek(&self) -> Option<T>
-        requires { Good before self.now }
+        requires { Good T.before self.now }
         ensures value { result ≡ top self.now }
-        ensures cases { MatchOption result (held self.now ≡ []) (λ x. Has (held self.now) x × Least before x (held self.now)) }
+        ensures cases { MatchOption result (held self.now ≡ []) (λ x. Has (held self.now) x × Least T.before x (held self.now)) }
     {
         let slots = &*self.slots;
         match self.len {
@@ -48,13 +48,13 @@ impl<'a, T: TotalOrder> Heap<'a, T> {
 
     // Takes a least item out; the slot that it frees holds that item still.
     pub fn pop(&mut self) -> Option<T>
-        requires { Good before self.old }
-        ensures good { Good before self.new }
+        requires { Good T.before self.old }
+        ensures good { Good T.before self.new }
         ensures value { result ≡ top self.old }
         ensures cases { MatchOption result (size self.old ≡ 0) (λ _. 0 < size self.old) }
         ensures size { size self.new ≡ size self.old - 1 }
         ensures room { room self.new ≡ room self.old }
-        ensures held { MatchOption result (self.new ≡ self.old) (λ x. Least before x (held self.old) × IsPermutation (held self.old) (x ∷ held self.new)) }
+        ensures held { MatchOption result (self.new ≡ self.old) (λ x. Least T.before x (held self.old) × IsPermutation (held self.old) (x ∷ held self.new)) }
         ensures rest { rest self.new ≡ option_to_list result ++ rest self.old }
         ensures named { self.new.slots.ghost_name ≡ self.old.slots.ghost_name }
     {
@@ -71,13 +71,13 @@ impl<'a, T: TotalOrder> Heap<'a, T> {
 
     // Puts x in the place of a least item, which it gives.
     pub fn replace_top(&mut self, x: T) -> Option<T>
-        requires { Good before self.old }
-        ensures good { Good before self.new }
+        requires { Good T.before self.old }
+        ensures good { Good T.before self.new }
         ensures value { result ≡ top self.old }
         ensures cases { MatchOption result (size self.old ≡ 0) (λ _. 0 < size self.old) }
         ensures size { size self.new ≡ size self.old }
         ensures room { room self.new ≡ room self.old }
-        ensures held { MatchOption result (self.new ≡ self.old) (λ y. Least before y (held self.old) × IsPermutation (x ∷ held self.old) (y ∷ held self.new)) }
+        ensures held { MatchOption result (self.new ≡ self.old) (λ y. Least T.before y (held self.old) × IsPermutation (x ∷ held self.old) (y ∷ held self.new)) }
         ensures rest { rest self.new ≡ rest self.old }
         ensures named { self.new.slots.ghost_name ≡ self.old.slots.ghost_name }
     {

@@ -8,7 +8,7 @@ use crate::order::TotalOrder;
 // Whether the item at i comes before the item at j.
 fn precedes<T: TotalOrder>(s: &[T], i: usize, j: usize) -> bool
     requires { (i < length s.now) × (j < length s.now) }
-    ensures { (d : T) → result ≡ before (slice_index_or s.now i d) (slice_index_or s.now j d) }
+    ensures { (d : T) → result ≡ T.before (slice_index_or s.now i d) (slice_index_or s.now j d) }
 {
     s[i].cmp(&s[j]).is_lt()
 }
@@ -16,9 +16,9 @@ fn precedes<T: TotalOrder>(s: &[T], i: usize, j: usize) -> bool
 // Moves the last item up, past each parent that it comes before.
 pub fn sift_up<T: TotalOrder>(s: &mut [T])
     requires some { 0 < length s.old }
-    requires heaped { HeapedWithin before s.old 0 (length s.old - 1) }
+    requires heaped { HeapedWithin T.before s.old 0 (length s.old - 1) }
     ensures shuffled { IsPermutation s.old s.new }
-    ensures heaped { Heaped before s.new }
+    ensures heaped { Heaped T.before s.new }
 {
     let mut j = s.len() - 1;
     while j > 0 {
@@ -35,7 +35,7 @@ pub fn sift_up<T: TotalOrder>(s: &mut [T])
 fn first_child<T: TotalOrder>(s: &[T], j: usize) -> usize
     requires { j < length s.now / 2 }
     ensures child { (j * 2 + 1 ≤ result) × (result ≤ j * 2 + 2) × (result < length s.now) }
-    ensures first { NoChildBefore before s.now j result }
+    ensures first { NoChildBefore T.before s.now j result }
 {
     let left = j * 2 + 1;
     let right = left + 1;
@@ -48,9 +48,9 @@ fn first_child<T: TotalOrder>(s: &[T], j: usize) -> usize
 
 // Moves the first item down, past each child that comes before it.
 pub fn sift_down<T: TotalOrder>(s: &mut [T])
-    requires { HeapedWithin before s.old 1 (length s.old) }
+    requires { HeapedWithin T.before s.old 1 (length s.old) }
     ensures shuffled { IsPermutation s.old s.new }
-    ensures heaped { Heaped before s.new }
+    ensures heaped { Heaped T.before s.new }
 {
     let mut j = 0;
     while j < s.len() / 2 {

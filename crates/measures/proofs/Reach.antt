@@ -1,5 +1,5 @@
 -- Values that are reached by joining points.
-use Rattle.std.proofs.Common.{◌≡◌, ℕ, zero, suc, ◌+◌, ◌*◌, ◌≤◌, Bool, true, false, cond, List, [], ◌∷◌, length, sym, refl, ap, ◌∙◌, subst, add-one, arith}
+use Rattle.std.proofs.Common.{◌≡◌, ℕ, zero, suc, ◌+◌, ◌*◌, ◌≤◌, Bool, true, false, cond, List, [], ◌∷◌, length, refl, ap, subst, add-one, arith}
 use Rattle.tasks.specs.declared.points.Point.{Point}
 use Rattle.tasks.specs.Choices.{Choice}
 use Rattle.measures.specs.Joins.{joined, Reached, measured}

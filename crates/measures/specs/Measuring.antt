@@ -1,5 +1,4 @@
 -- What a choice measures in a task.
-use Rattle.std.specs.Prelude.{ℕ}
 use Rattle.tasks.specs.declared.model.Task.{Task}
 use Rattle.tasks.specs.declared.points.Point.{Point}
 use Rattle.tasks.specs.Choices.{Choice}

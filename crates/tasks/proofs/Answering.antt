@@ -1,6 +1,5 @@
 -- From a word that is admitted to what is answered under it.
-use Rattle.std.proofs.Common.{◌≡◌, ℕ, true, cond, Ok, Err, sym, ap, ◌∙◌}
-use Rattle.tasks.specs.declared.refusals.Refusal.{Refusal}
+use Rattle.std.proofs.Common.{◌≡◌, ℕ, true, cond, Ok, Err, ap, ◌∙◌}
 use Rattle.tasks.specs.declared.refusals.Refusal.TheVariants.{OutOfRange}
 use Rattle.tasks.specs.declared.model.Task.{Task}
 use Rattle.tasks.specs.Under.{admitted, under}

@@ -1,6 +1,6 @@
 -- A choice of a task's points, and what it makes of the task.
 -- Index i is block i + 1, and point i + 1, which lies between the blocks i and i + 1 (by index).
-use Rattle.std.specs.Prelude.{ℕ, zero, suc, ◌+◌, ◌/◌, ◌%◌, ◌^◌, max, Bool, true, false, cond, List, [], ◌∷◌, ◌++◌, ◌==◌}
+use Rattle.std.specs.Prelude.{ℕ, zero, suc, ◌+◌, ◌/◌, ◌%◌, ◌^◌, max, Bool, cond, List, [], ◌∷◌, ◌++◌, ◌==◌}
 use Rattle.tasks.specs.declared.points.Point.{Point}
 
 -- the set of the points that are chosen, as a test on their indices

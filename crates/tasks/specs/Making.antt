@@ -1,5 +1,5 @@
 -- What the calls that make or change a task do.
-use Rattle.std.specs.Prelude.{◌≡◌, ℕ, ◌+◌, ◌-◌, Bool, cond, ◌&&◌, Ok, Err, vec_items, vec_len, Result, nat_le, slice_set}
+use Rattle.std.specs.Prelude.{◌≡◌, ℕ, ◌+◌, ◌-◌, cond, ◌&&◌, Ok, Err, vec_items, Result, nat_le, slice_set}
 use Rattle.tasks.specs.declared.refusals.Refusal.{Refusal}
 use Rattle.tasks.specs.declared.refusals.Refusal.TheVariants.{OutOfRange, NoSuch}
 use Rattle.tasks.specs.declared.model.Task.{Task}

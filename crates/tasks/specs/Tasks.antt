@@ -1,5 +1,5 @@
 -- A task as its contracts speak of it: its blocks and points by index, and what a choice makes of it.
-use Rattle.std.specs.Prelude.{ℕ, ◌-◌, true, List, length, get_or, vec_items, vec_len, slice_index_or}
+use Rattle.std.specs.Prelude.{ℕ, List, get_or, vec_items, vec_len, slice_index_or}
 use Rattle.std.proofs.Common.{lit≤}
 use Rattle.tasks.specs.declared.points.Point.{Point}
 use Rattle.tasks.specs.declared.model.Task.{Task}

@@ -5,11 +5,11 @@ use Rattle.heap.proofs.Steps as steps
 use Rattle.heap.proofs.Slots as slots
 use Rattle.heap.proofs.Heap.peek.Goals as goal
 
-pub returns-in-default : goal.returns-in-default
-returns-in-default g c =
+pub returns-in_default : goal.returns-in_default
+returns-in_default g c =
     let h = c.args.self.now in
     let x = c.index-slots-0.result in
-    let o = g.met.T.TotalOrder in
+    let o = g.T.TotalOrder in
     let long = length-take-le h.len h.slots.now c.requires.within in
     let first : x ≡ get_or (held h) 0 x = c.index-slots-0.is ∙ sym (get_or-take h.len h.slots.now 0 x (omega arith)) in
     record {

@@ -5,8 +5,8 @@ use Rattle.heap.proofs.Steps as steps
 use Rattle.heap.proofs.Slots as slots
 use Rattle.heap.proofs.Heap.pop.Goals as goal
 
-pub sift-down-requires : goal.sift-down-requires
-sift-down-requires g c =
+pub sift_down-requires : goal.sift_down-requires
+sift_down-requires g c =
     let n = c.args.self.now.len in
     slots.pop_heaped c.args.self.now.slots.now c.swap.new.self n (n - 1) _ (omega arith) c.requires.within c.index-self-0.is (c.swap.ensures.by_index.3 _) g.T.TotalOrder.before _ (omega arith) c.requires.heaped
 
@@ -14,7 +14,7 @@ pub returns : goal.returns
 returns g c =
     let xs = c.args.self.now.slots.now in
     let ys = c.swap.new.self in
-    let zs = c.sift-down.new.s in
+    let zs = c.sift_down.new.s in
     let n = c.args.self.now.len in
     let m = n - 1 in
     let x = get_or xs 0 c.index-self-0.result in
@@ -22,8 +22,8 @@ returns g c =
     let one : n ≡ m + 1 = omega arith in
     let swap = c.swap.ensures.by_index.3 x in
     let within : m ≤ length ys = omega (arith, c.swap.ensures.len, c.requires.within) in
-    let t = c.sift-down.ensures in
-    let o = g.met.T.TotalOrder in
+    let t = c.sift_down.ensures in
+    let o = g.T.TotalOrder in
     let kept = slots.sifted_held ys zs (m - 0) m (omega arith) within t.shuffled _ in
     record {
       good = record { within = search rules; heaped = subst (λ (l : List _). Heaped g.T.TotalOrder.before l) kept t.heaped };

@@ -4,8 +4,8 @@ use Rattle.heap.specs.Heaps.{Heaped}
 use Rattle.heap.proofs.Slots as slots
 use Rattle.heap.proofs.Heap.push.Goals as goal
 
-pub sift-up-requires : goal.sift-up-requires
-sift-up-requires g c =
+pub sift_up-requires : goal.sift_up-requires
+sift_up-requires g c =
     let xs = c.args.self.now.slots.now in
     let n = c.args.self.now.len in
     let x = c.args.x in
@@ -17,8 +17,8 @@ returns g c =
     let xs = c.args.self.now.slots.now in
     let n = c.args.self.now.len in
     let x = c.args.x in
-    let t = c.sift-up.ensures in
-    let zs = c.sift-up.new.s in
+    let t = c.sift_up.ensures in
+    let zs = c.sift_up.new.s in
     let some : n < length xs = omega (arith, c.requires.within) in
     let within : n + 1 ≤ length (set xs n x) = omega (arith, length-set xs n x) in
     let kept = slots.sifted_held (set xs n x) zs (n + 1 - 0) (n + 1) (omega arith) within t.shuffled _ in

@@ -5,8 +5,8 @@ use Rattle.heap.proofs.Steps as steps
 use Rattle.heap.proofs.Slots as slots
 use Rattle.heap.proofs.Heap.replace_top.Goals as goal
 
-pub sift-down-requires : goal.sift-down-requires
-sift-down-requires g c = slots.replace_heaped c.args.self.now.slots.now c.args.self.now.len c.args.x _ (omega arith) c.requires.within c.index-self-0.is g.T.TotalOrder.before _ (omega arith) c.requires.heaped
+pub sift_down-requires : goal.sift_down-requires
+sift_down-requires g c = slots.replace_heaped c.args.self.now.slots.now c.args.self.now.len c.args.x _ (omega arith) c.requires.within c.index-self-0.is g.T.TotalOrder.before _ (omega arith) c.requires.heaped
 
 pub returns : goal.returns
 returns g c =
@@ -14,13 +14,13 @@ returns g c =
     let n = c.args.self.now.len in
     let x = c.args.x in
     let ys = set xs 0 x in
-    let zs = c.sift-down.new.s in
+    let zs = c.sift_down.new.s in
     let y = get_or xs 0 c.index-self-0.result in
     let first : y ≡ get_or xs 0 y = ap (λ d. get_or xs 0 d) c.index-self-0.is in
     let some : 0 < n = omega arith in
     let within : n ≤ length ys = omega (arith, length-set xs 0 x, c.requires.within) in
-    let t = c.sift-down.ensures in
-    let o = g.met.T.TotalOrder in
+    let t = c.sift_down.ensures in
+    let o = g.T.TotalOrder in
     let kept = slots.sifted_held ys zs (n - 0) n (omega arith) within t.shuffled _ in
     record {
       good = record { within = search rules; heaped = subst (λ (l : List _). Heaped g.T.TotalOrder.before l) kept t.heaped };

@@ -5,12 +5,12 @@ use Rattle.heap.proofs.sift.first_child.Goals.{else-right-s-via-then-right-s+els
 
 pub returns-then-precedes : goal.returns-then-precedes
 returns-then-precedes g c =
-    let o = g.met.T.TotalOrder in
+    let o = g.T.TotalOrder in
     record { child = (omega arith, omega arith, omega arith); first = steps.right_child g.T.TotalOrder.before o.asym o.chain c.args.s.now c.args.j _ refl c.if-precedes.ensures }
 
 pub returns-else-right-s : goal.returns-else-right-s
 returns-else-right-s g c =
-    let o = g.met.T.TotalOrder in
+    let o = g.T.TotalOrder in
     record {
       child = (omega arith, omega arith, omega arith);
       first = elim c.else-right-s.branch [

@@ -10,8 +10,8 @@ pub loop-j-preserved : goal.loop-j-preserved
 loop-j-preserved g c =
     let l = c.loop-j in
     let t = c.swap.ensures in
-    let o = g.met.T.TotalOrder in
-    let child = c.first-child-child in (
+    let o = g.T.TotalOrder in
+    let child = c.first_child-child in (
       IsPermutation-trans _ _ _ l.invariant.0 t.permutation,
       steps.sinks g.T.TotalOrder.before o.asym o.chain l.s c.swap.new.self l.j child.result (length c.args.s.now) (omega arith) (omega arith) (omega arith) (t.by_index.0, t.by_index.1, t.by_index.2) c.if-not-precedes.ensures child.ensures.first l.auto.s l.invariant.1,
     )
@@ -19,8 +19,8 @@ loop-j-preserved g c =
 pub returns-then-not-precedes : goal.returns-then-not-precedes
 returns-then-not-precedes g c =
     let l = c.loop-j in
-    let o = g.met.T.TotalOrder in
-    record { shuffled = l.invariant.0; heaped = steps.sinking_rests g.T.TotalOrder.before o.asym o.chain l.s l.j c.first-child-child.result (length c.args.s.now) c.if-not-precedes.ensures c.first-child-child.ensures.first l.auto.s l.invariant.1 }
+    let o = g.T.TotalOrder in
+    record { shuffled = l.invariant.0; heaped = steps.sinking_rests g.T.TotalOrder.before o.asym o.chain l.s l.j c.first_child-child.result (length c.args.s.now) c.if-not-precedes.ensures c.first_child-child.ensures.first l.auto.s l.invariant.1 }
 
 pub returns : goal.returns
 returns g c =

@@ -10,7 +10,7 @@ pub loop-j-preserved : goal.loop-j-preserved
 loop-j-preserved g c =
     let l = c.loop-j in
     let t = c.swap.ensures in
-    let o = g.met.T.TotalOrder in (
+    let o = g.T.TotalOrder in (
       omega arith,
       IsPermutation-trans _ _ _ l.invariant.1 t.permutation,
       steps.rises g.T.TotalOrder.before o.asym o.chain l.s c.swap.new.self ((l.j - 1) / 2) l.j (length c.args.s.now) (omega arith) (omega arith) (omega arith) (t.by_index.0, t.by_index.1, t.by_index.2) c.if-not-precedes.ensures l.invariant.2,

@@ -1,11 +1,11 @@
 use Rattle.std.proofs.Common.{◌≡◌, ◌<◌, ◌≤◌, Bool, cond, length, get_or, vec_items, sym, ap, ◌∙◌, subst, ap₂, arith}
 use Rattle.std.proofs.lemmas.List.{get_or_default}
 use Rattle.tasks.specs.Choices.{told}
-use Rattle.tasks.specs.Tasks.{point_at, point_count, no_point}
+use Rattle.tasks.specs.Tasks.{point_at, no_point}
 use Rattle.measures.specs.Joins.{Reached, measured}
 use Rattle.measures.proofs.Reach.{reached_measured, reached_weak, measured_more}
 use Rattle.measures.proofs.measured.measure.Goals as goal
-use Rattle.measures.proofs.measured.measure.Goals.{then-is-chosen, else-is-chosen}
+use Rattle.measures.proofs.measured.measure.Goals.{then-is_chosen, else-is_chosen}
 
 pub join-value-requires : goal.join-value-requires
 join-value-requires g c =
@@ -25,7 +25,7 @@ loop-i-preserved g c =
     let p : c.p-item.result ≡ point_at t i = c.p-item.is ∙ ap (λ ps. get_or ps i c.p-item.result) c.points-p-items.ensures ∙ get_or_default (vec_items t.points) i c.p-item.result no_point within in
     let step = measured_more none join (point_at t) (told c.args.word) i in
     let by = λ (b : Bool). cond b (join so_far (point_at t i)) so_far in
-    elim c.if-is-chosen.branch [
-      | then-is-chosen w ↦ w.value-is ∙ w.join-value.ensures ∙ ap₂ join c.loop-i.invariant p ∙ sym (step ∙ ap by (sym c.is-chosen.ensures ∙ w.if-is-chosen.true))
-      | else-is-chosen w ↦ w.value-is ∙ c.loop-i.invariant ∙ sym (step ∙ ap by (sym c.is-chosen.ensures ∙ w.if-is-chosen.false))
+    elim c.if-is_chosen.branch [
+      | then-is_chosen w ↦ w.value-is ∙ w.join-value.ensures ∙ ap₂ join c.loop-i.invariant p ∙ sym (step ∙ ap by (sym c.is_chosen.ensures ∙ w.if-is_chosen.true))
+      | else-is_chosen w ↦ w.value-is ∙ c.loop-i.invariant ∙ sym (step ∙ ap by (sym c.is_chosen.ensures ∙ w.if-is_chosen.false))
     ]

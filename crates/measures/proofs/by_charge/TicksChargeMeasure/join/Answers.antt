@@ -2,8 +2,8 @@ use Rattle.std.proofs.Common.{refl, arith}
 use Rattle.measures.proofs.Reach.{bounded}
 use Rattle.measures.proofs.by_charge.TicksChargeMeasure.join.Goals as goal
 
-pub overflow-add-result : goal.overflow-add-result
-overflow-add-result c = omega (arith, bounded (λ v. v.ticks) refl (λ v p. omega (arith, p.small.0)) 62 c.args.self c.requires, c.args.p.small.0)
+pub overflow_add-result : goal.overflow_add-result
+overflow_add-result c = omega (arith, bounded (λ v. v.ticks) refl (λ v p. omega (arith, p.small.0)) 62 c.args.self c.requires, c.args.p.small.0)
 
-pub overflow-add-result-2 : goal.overflow-add-result-2
-overflow-add-result-2 c = omega (arith, bounded (λ v. v.charge) refl (λ v p. omega (arith, p.small.1)) 62 c.args.self c.requires, c.args.p.small.1)
+pub overflow_add-result-2 : goal.overflow_add-result-2
+overflow_add-result-2 c = omega (arith, bounded (λ v. v.charge) refl (λ v p. omega (arith, p.small.1)) 62 c.args.self c.requires, c.args.p.small.1)

@@ -1,6 +1,6 @@
-use Rattle.std.proofs.Common.{◌≡◌, ℕ, suc, ◌+◌, ◌-◌, ◌*◌, ◌%◌, ◌^◌, ◌<◌, ◌≤◌, true, false, cond, List, [], ◌∷◌, ◌++◌, vec_items, sym, refl, ap, ◌∙◌, subst, ap₂, ⊎_elim, add-one, arith}
+use Rattle.std.proofs.Common.{◌≡◌, ℕ, ◌+◌, ◌-◌, ◌*◌, ◌%◌, ◌^◌, ◌<◌, true, false, cond, [], ◌∷◌, ◌++◌, vec_items, sym, ap, ◌∙◌, ap₂, ⊎_elim, add-one, arith}
 use lib.Count.{count_trailing_zeros}
-use Rattle.std.proofs.lemmas.Nat.{one_shl, pow_below, pow_pos}
+use Rattle.std.proofs.lemmas.Nat.{one_shl}
 use Rattle.std.proofs.lemmas.List.{append_assoc, append-nil}
 use Rattle.std.proofs.lemmas.Bool.{cases_lt}
 use Rattle.std.proofs.lemmas.Bool.Decides.{nat_tests}
@@ -9,7 +9,7 @@ use Rattle.tasks.specs.Tasks.{point_count}
 use Rattle.tasks.proofs.Words.{trailing_low, trailing_set, has_le, cleared_at, cleared_else, rising-first, rising_none, told-short}
 use Rattle.tasks.proofs.model.Task.chosen.Goals as goal
 
-module _ (c : goal.Else-is-err) where
+module _ (c : goal.Else-is_err) where
   at : ℕ
   at = count_trailing_zeros 64 c.loop-rest.rest
 
@@ -30,9 +30,9 @@ module _ (c : goal.Else-is-err) where
   one_bit : (1 * 2 ^ at) % 2 ^ 64 ≡ 2 ^ at
   one_bit = one_shl at 64 (omega (arith, within, c.args.self.now.count))
 
-pub overflow-sub-rest : goal.overflow-sub-rest
+pub overflow_sub-rest : goal.overflow_sub-rest
 unfolding at
-overflow-sub-rest c = omega (arith, one_bit c, has_le c.loop-rest.rest (at c) (set c))
+overflow_sub-rest c = omega (arith, one_bit c, has_le c.loop-rest.rest (at c) (set c))
 
 pub loop-rest-preserved : goal.loop-rest-preserved
 unfolding at
@@ -41,7 +41,7 @@ loop-rest-preserved c =
     let l = c.loop-rest in
     let i = at c in
     let bit : (1 * 2 ^ i) % 2 ^ 64 ≡ 2 ^ i = one_bit c in
-    let put : vec_items c.push.new.self ≡ vec_items l.list ++ (i + 1) ∷ [] = c.push.ensures.items ∙ ap (λ b. cond b (vec_items l.list ++ (i + 1) ∷ []) (vec_items l.list)) c.if-is-err.ensures.negation in
+    let put : vec_items c.push.new.self ≡ vec_items l.list ++ (i + 1) ∷ [] = c.push.ensures.items ∙ ap (λ b. cond b (vec_items l.list ++ (i + 1) ∷ []) (vec_items l.list)) c.if-is_err.ensures.negation in
     let first : rising (told l.rest) (point_count t) ≡ (i + 1) ∷ rising (told (l.rest - 2 ^ i)) (point_count t) =
     rising-first (told l.rest) (told (l.rest - 2 ^ i)) i (point_count t) (within c) (trailing_low 64 l.rest) (set c) (cleared_at l.rest i (set c)) (cleared_else l.rest i (set c)) ∙ ap (λ n. n ∷ rising (told (l.rest - 2 ^ i)) (point_count t)) (sym (add-one i)) in (
       ap₂ (λ xs b. xs ++ rising (told (l.rest - b)) (point_count t)) put bit ∙ append_assoc (vec_items l.list) ((i + 1) ∷ []) _ ∙ ap (λ r. vec_items l.list ++ r) (sym first) ∙ l.invariant.0,

@@ -4,20 +4,20 @@ use Rattle.tasks.specs.Tasks.{cost_of_block, point_at, point_count, longest_of}
 use Rattle.tasks.proofs.Answering.{answered}
 use Rattle.tasks.proofs.Walks.{begun, gone-on}
 use Rattle.tasks.proofs.model.Task.longest.Goals as goal
-use Rattle.tasks.proofs.model.Task.longest.Goals.{then-is-chosen, else-is-chosen}
+use Rattle.tasks.proofs.model.Task.longest.Goals.{then-is_chosen, else-is_chosen}
 
 pub loop-i-preserved : goal.loop-i-preserved
 loop-i-preserved c =
     let t = c.args.self.now in
     let l = c.loop-i in
-    let cost = c.cost-at-length-in-loop-i.ensures in
-    elim c.if-is-chosen.branch [
-      | then-is-chosen w ↦ (
-        λ more. omega (arith, begun (cost_of_block t) (point_at t) (told c.args.word) l.i l.longest l.length l.invariant.0 (sym w.if-is-chosen.ensures) more, w.longest-is, w.max-longest.ensures, w.length-is, w.ticks-at-length.ensures.value, cost.value),
-        omega (arith, w.length-is, w.ticks-at-length.ensures.bound, cost.bound, l.invariant.1),
+    let cost = c.cost_at-length-in-loop-i.ensures in
+    elim c.if-is_chosen.branch [
+      | then-is_chosen w ↦ (
+        λ more. omega (arith, begun (cost_of_block t) (point_at t) (told c.args.word) l.i l.longest l.length l.invariant.0 (sym w.if-is_chosen.ensures) more, w.longest-is, w.max-longest.ensures, w.length-is, w.ticks_at-length.ensures.value, cost.value),
+        omega (arith, w.length-is, w.ticks_at-length.ensures.bound, cost.bound, l.invariant.1),
       )
-      | else-is-chosen w ↦ (
-        λ more. omega (arith, gone-on (cost_of_block t) (point_at t) (told c.args.word) l.i l.longest l.length l.invariant.0 (sym w.if-is-chosen.ensures) more, w.longest-is, w.length-is, cost.value),
+      | else-is_chosen w ↦ (
+        λ more. omega (arith, gone-on (cost_of_block t) (point_at t) (told c.args.word) l.i l.longest l.length l.invariant.0 (sym w.if-is_chosen.ensures) more, w.longest-is, w.length-is, cost.value),
         omega (arith, w.length-is, cost.bound, l.invariant.1),
       )
     ]

@@ -4,8 +4,8 @@ use Rattle.tasks.specs.Ranges.{cost_fits}
 use Rattle.tasks.proofs.Fits.{fits-set}
 use Rattle.tasks.proofs.model.Task.recost.Goals as goal
 
-pub invariant-of-self : goal.invariant-of-self
-invariant-of-self c =
+pub invariant_of-self-clause-costs : goal.invariant_of-self-clause-costs
+invariant_of-self-clause-costs c =
     let t = c.args.self.now in
     let f : cost_fits c.args.cost ≡ true = grind (arith, nat_tests) in
-    (t.clock, (t.count, (fits-set t.blocks.records.items _ (record { cost = c.args.cost }) f t.costs, tt)))
+    fits-set t.blocks.records.items _ (record { cost = c.args.cost }) f t.costs
