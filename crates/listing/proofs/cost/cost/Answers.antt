@@ -2,7 +2,7 @@ use Rattle.std.proofs.Common.{subst}
 use Rattle.std.proofs.lemmas.Result.{err_from_is_err_and}
 use Rattle.listing.proofs.Costed.{Outlined, outlined, read_fault, JudgedTold, judged-told}
 use Rattle.listing.proofs.cost.cost.Goals as goal
-use Rattle.listing.proofs.cost.cost.Goals.{After-judge, at·returns, at·returns-in_err-judge}
+use Rattle.listing.proofs.cost.cost.Goals.{After-judge, at-returns, at-returns-in_err-judge}
 
 pub returns-in_err-outline : goal.returns-in_err-outline
 returns-in_err-outline c =
@@ -22,10 +22,10 @@ judgement c =
 pub returns-in_err-judge : goal.returns-in_err-judge
 returns-in_err-judge c =
     let p = err_from_is_err_and c.from_residual-in_err-judge.result c.from_residual-in_err-judge.ensures.1 in
-    let b = subst (JudgedTold c.args.bytes.now c.in_ok-outline.outline c.settled-by_code.result) c.in_err-judge.was (judgement (at·returns-in_err-judge c).After-judge) in
+    let b = subst (JudgedTold c.args.bytes.now c.in_ok-outline.outline c.settled-by_code.result) c.in_err-judge.was (judgement (at-returns-in_err-judge c).After-judge) in
     rw (p.1, p.2) (record { told = b.0; cycles = b.1; places = b.2 })
 
 pub returns : goal.returns
 returns c =
-    let b = subst (JudgedTold c.args.bytes.now c.in_ok-outline.outline c.settled-by_code.result) c.in_ok-judge.was (judgement (at·returns c).After-judge) in
+    let b = subst (JudgedTold c.args.bytes.now c.in_ok-outline.outline c.settled-by_code.result) c.in_ok-judge.was (judgement (at-returns c).After-judge) in
     record { told = b.0; cycles = b.1; places = b.2 }
