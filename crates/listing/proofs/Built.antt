@@ -1,8 +1,8 @@
 -- What one turn of loading blocks keeps. Assumes nothing.
-use Rattle.std.proofs.Common.{◌≡◌, ℕ, suc, ◌+◌, ◌-◌, ◌<◌, ◌≤◌, true, ◌&&◌, leb, ◌⊎◌, List, [], ◌∷◌, ◌++◌, map, length, Some, None, Ok, Err, Option, Result, sym, refl, ap, ◌∙◌, subst, ⊎_elim, arith, eq-eqb, le-leb}
+use Rattle.std.proofs.Common.{◌≡◌, ℕ, suc, ◌+◌, ◌-◌, ◌<◌, ◌≤◌, true, ◌&&◌, leb, List, [], ◌∷◌, ◌++◌, map, length, Some, None, Ok, Err, Option, Result, sym, refl, ap, ◌∙◌, subst, ⊎_elim, arith, eq-eqb, le-leb}
 use Rattle.std.proofs.lemmas.List.{append-nil, append_assoc, map-append, length_push}
 use Rattle.std.proofs.lemmas.Bool.{and_from, and_parts}
-use Rattle.std.specs.List.{AllByRecursion as All}
+use Rattle.std.specs.List.{AllByRecursion}
 use Rattle.tasks.specs.Ranges.{cost_fits, costs_fit, body_fits}
 use Rattle.tasks.specs.declared.blocks.Block.{Block}
 use Rattle.tasks.specs.declared.points.Point.{Point}
@@ -103,12 +103,12 @@ module _ (bs : List ℕ) (of : ℕ → ℕ) (b : Blocks) (blocks : List Block) (
 
     first-priced : Priced of g.rest.0 → (tail : List Head) → block_heads g.rest.0 ≡ head step.code step.at ∷ tail → cost_fits x.cost ≡ true
     first-priced p tail e =
-        let q = subst (λ l. All (λ (y : Head). (1 ≤ of y.code) × (of y.code ≤ 1000000)) l) e p in
+        let q = subst (λ l. AllByRecursion (λ (y : Head). (1 ≤ of y.code) × (of y.code ≤ 1000000)) l) e p in
         let low = q.0.0 in
         let high = q.0.1 in
         and_from (leb 1 x.cost) (leb x.cost 1000000) (le-leb _ _ (omega (arith, cost-is, low))) (le-leb _ _ (omega (arith, cost-is, high)))
 
-    tail-priced : (z : Head) (zs : List Head) → All (λ (y : Head). (1 ≤ of y.code) × (of y.code ≤ 1000000)) (z ∷ zs) → All (λ (y : Head). (1 ≤ of y.code) × (of y.code ≤ 1000000)) zs
+    tail-priced : (z : Head) (zs : List Head) → AllByRecursion (λ (y : Head). (1 ≤ of y.code) × (of y.code ≤ 1000000)) (z ∷ zs) → AllByRecursion (λ (y : Head). (1 ≤ of y.code) × (of y.code ≤ 1000000)) zs
     tail-priced z zs all = all.1
 
     pub last_block : point_of (answer AfterBlock bs (after BlockDue bs place)) ≡ None → Made of b (blocks ++ x ∷ []) points
@@ -143,6 +143,6 @@ module _ (bs : List ℕ) (of : ℕ → ℕ) (b : Blocks) (blocks : List Block) (
           costs = ap (λ l. l ++ block_costs of y.2) (map-append (λ (z : Block). z.cost) blocks (x ∷ [])) ∙ append_assoc (costs_in blocks) (x.cost ∷ []) (block_costs of y.2) ∙ ap (λ n. costs_in blocks ++ n ∷ block_costs of y.2) (sym cost-is) ∙ ap (λ z. costs_in blocks ++ block_costs of z) (sym y.5) ∙ g.costs;
           between = ap (λ l. l ++ points_of y.2) (pairs_push points p) ∙ append_assoc (pairs points) ((p.ticks, p.charge) ∷ []) (points_of y.2) ∙ (λ i. pairs points ++ (ticks-are i, charge-is i) ∷ points_of y.2) ∙ (λ i. pairs points ++ sym same i ∷ points_of y.2) ∙ ap (λ z. pairs points ++ points_of z) (sym y.5) ∙ g.between;
           fit = all_fit_push blocks x g.fit fit;
-          priced = tail-priced (head step.code step.at) (block_heads y.2) (subst (λ l. All (λ (z : Head). (1 ≤ of z.code) × (of z.code ≤ 1000000)) l) (ap block_heads y.5) g.priced);
+          priced = tail-priced (head step.code step.at) (block_heads y.2) (subst (λ l. AllByRecursion (λ (z : Head). (1 ≤ of z.code) × (of z.code ≤ 1000000)) l) (ap block_heads y.5) g.priced);
         })
         step.follows

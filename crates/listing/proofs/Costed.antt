@@ -1,7 +1,7 @@
 -- What each step of costing tells of the whole answer. Assumes nothing.
-use Rattle.std.proofs.Common.{◌≡◌, ℕ, ◌+◌, ◌≤◌, Bool, List, ◌++◌, map, length, Some, None, Ok, Err, Option, Result, sym, refl, ap, ◌∙◌, subst, arith}
+use Rattle.std.proofs.Common.{◌≡◌, ℕ, ◌≤◌, Bool, List, ◌++◌, map, length, Some, None, Ok, Err, Option, Result, sym, refl, ap, ◌∙◌, subst, arith}
 use Rattle.std.proofs.lemmas.List.{length-map}
-use Rattle.std.specs.List.{AllByRecursion as All, range_with_len}
+use Rattle.std.specs.List.{AllByRecursion, range_with_len}
 use Rattle.faults.specs.declared.fault.ReadFault.{ReadFault}
 use Rattle.faults.specs.declared.fault.CostFault.{CostFault}
 use Rattle.faults.specs.declared.fault.CostFault.TheVariants.{Read, Unknown, Cycle, TooDear}
@@ -92,7 +92,7 @@ module _ (bs : List ℕ) (hs ks : List Head) (x : Outlined bs hs ks) (short : le
   unfolding rs
   calls_are = ap (calls_in bs) x.routines_are ∙ calls_same bs x.it.routines (listing-parts bs x.it x.is).0
 
-  module _ (calls rows : List (List Bool)) (costs : List ℕ) (call block cycle dear : Option Head) (told : Tabled calls (table_of (calls_in bs hs))) (call-told : call ≡ unknown_in hs (calls_in bs hs)) (block-told : (l : List Task) → ks ≡ map task_head l → All (TaskRead bs) l → block ≡ unknown_in hs (block_lists l)) (reach : Tabled rows (closed (entry calls) (code_at hs) (length hs))) (cycle-told : cycle ≡ cycle_from (entry rows) 0 hs) (capped : (l : List Routine) → hs ≡ map routine_head l → All (BodyRead bs) l → Capped costs (cost_in l 32)) (dear-told : dear ≡ dear_from (cost_of_code costs) hs) where
+  module _ (calls rows : List (List Bool)) (costs : List ℕ) (call block cycle dear : Option Head) (told : Tabled calls (table_of (calls_in bs hs))) (call-told : call ≡ unknown_in hs (calls_in bs hs)) (block-told : (l : List Task) → ks ≡ map task_head l → AllByRecursion (TaskRead bs) l → block ≡ unknown_in hs (block_lists l)) (reach : Tabled rows (closed (entry calls) (code_at hs) (length hs))) (cycle-told : cycle ≡ cycle_from (entry rows) 0 hs) (capped : (l : List Routine) → hs ≡ map routine_head l → AllByRecursion (BodyRead bs) l → Capped costs (cost_in l 32)) (dear-told : dear ≡ dear_from (cost_of_code costs) hs) where
     unknown-is : option_or call block ≡ unknown_in known (call_lists rs ++ block_lists ts)
     unfolding rs ts known
     unknown-is =

@@ -1,9 +1,9 @@
 -- What loading tells of the whole answer. Assumes nothing.
-use Rattle.std.proofs.Common.{◌≡◌, ℕ, zero, suc, ◌+◌, ◌<◌, ◌≤◌, Bool, false, cond, eqb, ◌⊎◌, List, [], ◌∷◌, ◌++◌, map, length, get_or, Some, None, Ok, Err, vec_items, Option, Result, Vec, sym, refl, ap, ◌∙◌, subst, ⊎_elim, zero-add, arith}
+use Rattle.std.proofs.Common.{◌≡◌, ℕ, zero, suc, ◌<◌, ◌≤◌, Bool, false, cond, eqb, List, [], ◌∷◌, ◌++◌, map, length, get_or, Some, None, Ok, Err, vec_items, Option, Result, Vec, sym, refl, ap, ◌∙◌, subst, ⊎_elim, zero-add, arith}
 use Rattle.std.proofs.lemmas.List.FromFn.{get_or-map-range_with_len, length-map-range_with_len}
 use Rattle.std.proofs.lemmas.List.{get_or_past}
 use Rattle.std.proofs.lemmas.Bool.{cases_Bool, cond-true, cond-false, cases_lt, eqb-false}
-use Rattle.std.specs.List.{range_with_len, AllByRecursion as All}
+use Rattle.std.specs.List.{range_with_len, AllByRecursion}
 use Rattle.tasks.specs.declared.model.Task.{Task as HeldTask}
 use Rattle.faults.specs.declared.fault.ReadFault.{ReadFault}
 use Rattle.faults.specs.declared.fault.CostFault.{CostFault}
@@ -90,7 +90,7 @@ next-none t None r e = (refl, e)
 next-none t (Some h) r e = nothing (sym e)
 
 -- blocks that are not marked as free cost something
-some-cost : (of : ℕ → ℕ) (marks : List Bool) (hs : List Head) → ((c : ℕ) → c < 256 → get_or marks c false ≡ eqb (of c) 0) → ((c : ℕ) → of c ≤ 1000000) → All (λ (h : Head). h.code < 256) hs → first_marked marks hs ≡ None → All (λ (h : Head). (1 ≤ of h.code) × (of h.code ≤ 1000000)) hs
+some-cost : (of : ℕ → ℕ) (marks : List Bool) (hs : List Head) → ((c : ℕ) → c < 256 → get_or marks c false ≡ eqb (of c) 0) → ((c : ℕ) → of c ≤ 1000000) → AllByRecursion (λ (h : Head). h.code < 256) hs → first_marked marks hs ≡ None → AllByRecursion (λ (h : Head). (1 ≤ of h.code) × (of h.code ≤ 1000000)) hs
 some-cost of marks [] says high small e = tt
 some-cost of marks (h ∷ hs) says high small e =
     ⊎_elim
@@ -101,7 +101,7 @@ some-cost of marks (h ∷ hs) says high small e =
     ((pos, high h.code), some-cost of marks hs says high small.1 (sym (cond-false _ _ _ m) ∙ e)))
     (cases_Bool (get_or marks h.code false))
 
-all-priced : (bs : List ℕ) (of : ℕ → ℕ) (marks : List Bool) (ts : List Task) → ((c : ℕ) → c < 256 → get_or marks c false ≡ eqb (of c) 0) → ((c : ℕ) → of c ≤ 1000000) → All (TaskRead bs) ts → marked_in marks ts ≡ None → All (λ (t : Task). Priced of t.blocks) ts
+all-priced : (bs : List ℕ) (of : ℕ → ℕ) (marks : List Bool) (ts : List Task) → ((c : ℕ) → c < 256 → get_or marks c false ≡ eqb (of c) 0) → ((c : ℕ) → of c ≤ 1000000) → AllByRecursion (TaskRead bs) ts → marked_in marks ts ≡ None → AllByRecursion (λ (t : Task). Priced of t.blocks) ts
 all-priced bs of marks [] says high all e = tt
 all-priced bs of marks (t ∷ ts) says high all e =
     let p = next-none (task_head t) (first_marked marks (block_heads t.blocks)) (marked_in marks ts) e in (
@@ -110,18 +110,18 @@ all-priced bs of marks (t ∷ ts) says high all e =
     )
 
 -- marks of the codes that cost nothing find the first block that costs nothing
-free_first : (of : ℕ → ℕ) (marks : List Bool) (hs : List Head) → ((c : ℕ) → c < 256 → get_or marks c false ≡ eqb (of c) 0) → All (λ (h : Head). h.code < 256) hs → first_marked marks hs ≡ first_free of hs
+free_first : (of : ℕ → ℕ) (marks : List Bool) (hs : List Head) → ((c : ℕ) → c < 256 → get_or marks c false ≡ eqb (of c) 0) → AllByRecursion (λ (h : Head). h.code < 256) hs → first_marked marks hs ≡ first_free of hs
 free_first of marks [] says small = refl
 free_first of marks (h ∷ hs) says small = (λ i. cond (says h.code small.0 i) (Some h) (free_first of marks hs says small.1 i))
 
-free_same : (bs : List ℕ) (of : ℕ → ℕ) (marks : List Bool) (ts : List Task) → ((c : ℕ) → c < 256 → get_or marks c false ≡ eqb (of c) 0) → All (TaskRead bs) ts → marked_in marks ts ≡ free_in of ts
+free_same : (bs : List ℕ) (of : ℕ → ℕ) (marks : List Bool) (ts : List Task) → ((c : ℕ) → c < 256 → get_or marks c false ≡ eqb (of c) 0) → AllByRecursion (TaskRead bs) ts → marked_in marks ts ≡ free_in of ts
 free_same bs of marks [] says all = refl
 free_same bs of marks (t ∷ ts) says all =
     let small = small-blocks (suc (length bs)) bs 0 _ (t.blocks, all.0.end) all.0.blocks_are in
     (λ i. or_next (task_head t) (free_first of marks (block_heads t.blocks) says small i) (free_same bs of marks ts says all.1 i))
 
 -- the first marked block stands where it is told
-first-stands : (bs : List ℕ) (marks : List Bool) (hs : List Head) (h : Head) → All (Headed BlockDue command.Block bs) hs → first_marked marks hs ≡ Some h → Headed BlockDue command.Block bs h
+first-stands : (bs : List ℕ) (marks : List Bool) (hs : List Head) (h : Head) → AllByRecursion (Headed BlockDue command.Block bs) hs → first_marked marks hs ≡ Some h → Headed BlockDue command.Block bs h
 first-stands bs marks [] h all e = nothing e
 first-stands bs marks (x ∷ xs) h all e = cond_has (Headed BlockDue command.Block bs) (get_or marks x.code false) (Some x) (first_marked marks xs) h (self_has (Headed BlockDue command.Block bs) x h all.0) (first-stands bs marks xs h all.1) e
 
@@ -129,17 +129,17 @@ next-stands : (bs : List ℕ) (t : Head) (o : Option Head) (r : Option (Head × 
 next-stands bs t (Some h) r y f g e = let same : (t, h) ≡ y = cc in subst (λ (z : Head × Head). Headed BlockDue command.Block bs z.1) same (f h refl)
 next-stands bs t None r y f g e = g e
 
-marked-stands : (bs : List ℕ) (marks : List Bool) (ts : List Task) (y : Head × Head) → All (TaskRead bs) ts → marked_in marks ts ≡ Some y → Headed BlockDue command.Block bs y.1
+marked-stands : (bs : List ℕ) (marks : List Bool) (ts : List Task) (y : Head × Head) → AllByRecursion (TaskRead bs) ts → marked_in marks ts ≡ Some y → Headed BlockDue command.Block bs y.1
 marked-stands bs marks [] y all e = nothing e
 marked-stands bs marks (t ∷ ts) y all e =
     next-stands bs (task_head t) (first_marked marks (block_heads t.blocks)) (marked_in marks ts) y (λ h q. first-stands bs marks (block_heads t.blocks) h (blocks_stand (suc (length bs)) bs 0 _ (t.blocks, all.0.end) all.0.blocks_are) q) (λ q. marked-stands bs marks ts y all.1 q) e
 
 -- the same tasks at costs that agree
-same-costs : (of by : ℕ → ℕ) (hs : List Head) → ((c : ℕ) → c < 256 → of c ≡ by c) → All (λ (h : Head). h.code < 256) hs → map (λ (h : Head). of h.code) hs ≡ map (λ (h : Head). by h.code) hs
+same-costs : (of by : ℕ → ℕ) (hs : List Head) → ((c : ℕ) → c < 256 → of c ≡ by c) → AllByRecursion (λ (h : Head). h.code < 256) hs → map (λ (h : Head). of h.code) hs ≡ map (λ (h : Head). by h.code) hs
 same-costs of by [] same small = refl
 same-costs of by (h ∷ hs) same small = (λ i. same h.code small.0 i ∷ same-costs of by hs same small.1 i)
 
-same-tasks : (bs : List ℕ) (of by : ℕ → ℕ) (xs : List HeldTask) (ts : List Task) → ((c : ℕ) → c < 256 → of c ≡ by c) → All (TaskRead bs) ts → Are of xs ts → Are by xs ts
+same-tasks : (bs : List ℕ) (of by : ℕ → ℕ) (xs : List HeldTask) (ts : List Task) → ((c : ℕ) → c < 256 → of c ≡ by c) → AllByRecursion (TaskRead bs) ts → Are of xs ts → Are by xs ts
 same-tasks bs of by [] [] same all a = tt
 same-tasks bs of by [] (t ∷ ts) same all a = absurd a
 same-tasks bs of by (x ∷ xs) [] same all a = absurd a
@@ -158,7 +158,7 @@ module _ (bs : List ℕ) (k : Costs) (x : Costed bs k) where
   unfolding costing
   read_ok = judged_ok bs x.it (listing bs) refl x.is
 
-  pub tasks-read : All (TaskRead bs) x.it.tasks
+  pub tasks-read : AllByRecursion (TaskRead bs) x.it.tasks
   tasks-read = (listing-parts bs x.it read_ok.0).1
 
   table_is : (c : ℕ) → c < 256 → cost_of_code k.by_code c ≡ of c
@@ -182,19 +182,19 @@ module _ (bs : List ℕ) (k : Costs) (x : Costed bs k) where
     unfolding of loading
     whole = ap loaded_after x.is ∙ ap (λ o. unless_free o x.it) (sym (free_same bs (cost_in x.it.routines 32) marks x.it.tasks (λ c h. says.says c h ∙ ap (λ n. eqb n 0) (table_is c h)) tasks-read))
 
-    pub free_told : (y : Head × Head) → ((ts : List Task) → held k.outline.tasks ≡ map task_head ts → All (TaskRead bs) ts → Some y ≡ marked_in marks ts) → (loading bs ≡ Err (FreeBlock y.1.at y.0.code)) × (n : ℕ) × Stands bs (command.Block n) y.1.at
+    pub free_told : (y : Head × Head) → ((ts : List Task) → held k.outline.tasks ≡ map task_head ts → AllByRecursion (TaskRead bs) ts → Some y ≡ marked_in marks ts) → (loading bs ≡ Err (FreeBlock y.1.at y.0.code)) × (n : ℕ) × Stands bs (command.Block n) y.1.at
     free_told y e =
         let m = sym (e x.it.tasks x.tasks_are tasks-read) in
         (whole ∙ ap (λ o. unless_free o x.it) m, y.1.code, (BlockDue, marked-stands bs marks x.it.tasks y tasks-read m))
 
-    module _ (none : (ts : List Task) → held k.outline.tasks ≡ map task_head ts → All (TaskRead bs) ts → None ≡ marked_in marks ts) where
+    module _ (none : (ts : List Task) → held k.outline.tasks ≡ map task_head ts → AllByRecursion (TaskRead bs) ts → None ≡ marked_in marks ts) where
       none_free : marked_in marks x.it.tasks ≡ None
       none_free = sym (none x.it.tasks x.tasks_are tasks-read)
 
       pub loads : loading bs ≡ Ok x.it
       loads = whole ∙ ap (λ o. unless_free o x.it) none_free
 
-      pub tasks-priced : All (λ (t : Task). Priced (cost_of_code k.by_code) t.blocks) x.it.tasks
+      pub tasks-priced : AllByRecursion (λ (t : Task). Priced (cost_of_code k.by_code) t.blocks) x.it.tasks
       tasks-priced = all-priced bs (cost_of_code k.by_code) marks x.it.tasks says.says table-high tasks-read none_free
 
       pub true_tasks : (xs : List HeldTask) → Are (cost_of_code k.by_code) xs x.it.tasks → Are (cost_in x.it.routines 32) xs x.it.tasks

@@ -1,10 +1,10 @@
 -- From the code's tables to the definitions over the tree. Assumes nothing.
-use Rattle.std.proofs.Common.{◌≡◌, ℕ, zero, suc, ◌+◌, ◌-◌, ◌<◌, ◌≤◌, Bool, cond, not, ◌&&◌, ◌||◌, ltb, ◌⊎◌, List, [], ◌∷◌, ◌++◌, map, length, Some, None, Ok, Option, sym, refl, ap, ◌∙◌, subst, inl, inr, ⊎_elim, arith, le-ltb, lt-ltb, ne_eqb}
+use Rattle.std.proofs.Common.{◌≡◌, ℕ, zero, suc, ◌+◌, ◌<◌, ◌≤◌, Bool, cond, not, ◌&&◌, ◌||◌, ltb, ◌⊎◌, List, [], ◌∷◌, ◌++◌, map, length, Some, None, Ok, Option, sym, refl, ap, ◌∙◌, subst, inl, inr, ⊎_elim, arith, le-ltb, lt-ltb, ne_eqb}
 use Rattle.std.proofs.lemmas.List.{length-map}
 use Rattle.std.proofs.lemmas.List.FromFn.{fill_by_all}
 use Rattle.std.proofs.ByRecursion.{All-get_or}
 use Rattle.std.proofs.lemmas.Bool.{cases_Bool, cond-true, cond-false, cases_eq, cases_lt, ltb-false}
-use Rattle.std.specs.List.{range_with_len, AllByRecursion as All}
+use Rattle.std.specs.List.{range_with_len, AllByRecursion}
 use Rattle.reading.specs.declared.heads.Head.{Head}
 use Rattle.reading.specs.Heads.{head, used}
 use Rattle.reading.specs.Trees.{Routine, Task, Listing, block_heads}
@@ -26,7 +26,7 @@ use Rattle.listing.proofs.Noted.{or_assoc}
 use Rattle.listing.proofs.Standing.{small-blocks}
 
 -- a listing that is read has each routine and each task at its offset
-pub listing-parts : (bs : List ℕ) (l : Listing) → listing bs ≡ Ok l → All (BodyRead bs) l.routines × All (TaskRead bs) l.tasks
+pub listing-parts : (bs : List ℕ) (l : Listing) → listing bs ≡ Ok l → AllByRecursion (BodyRead bs) l.routines × AllByRecursion (TaskRead bs) l.tasks
 unfolding listing
 listing-parts bs l e =
     ⊎_elim
@@ -36,12 +36,12 @@ listing-parts bs l e =
     let rs : List Routine × ℕ = w.0 in
     let v = went (λ (ts : List Task × ℕ). Ok (record { routines = rs.0; tasks = ts.0 })) (tasks_from bs (suc (length bs)) [] rs.1) l w.2 in
     let same : record { routines = rs.0; tasks = v.0.0 } ≡ l = let h = v.2 in cc in
-    subst (λ (x : Listing). All (BodyRead bs) x.routines × All (TaskRead bs) x.tasks) same
+    subst (λ (x : Listing). AllByRecursion (BodyRead bs) x.routines × AllByRecursion (TaskRead bs) x.tasks) same
     (all_bodies bs (suc (length bs)) [] 0 rs w.1, all-tasks bs (suc (length bs)) [] rs.1 v.0 v.1))
     (cases_Bool (ltb 32768 (length bs)))
 
 -- the calls that are met are those of the trees
-pub calls_same : (bs : List ℕ) (rs : List Routine) → All (BodyRead bs) rs → calls_in bs (map routine_head rs) ≡ call_lists rs
+pub calls_same : (bs : List ℕ) (rs : List Routine) → AllByRecursion (BodyRead bs) rs → calls_in bs (map routine_head rs) ≡ call_lists rs
 calls_same bs [] all = refl
 calls_same bs (r ∷ rs) all = (λ i. calls_are bs r all.0 i ∷ calls_same bs rs all.1 i)
 
@@ -51,7 +51,7 @@ unknown-append known (x ∷ xs) ys = ap (option_or (first_unknown known x)) (unk
 
 -- marks of what is not known find the first that is not known
 module _ (known : List Head) (marks : List Bool) (says : RowSays marks (λ c. not (used c known))) where
-  marked-is : (hs : List Head) → All (λ (h : Head). h.code < 256) hs → first_marked marks hs ≡ first_unknown known hs
+  marked-is : (hs : List Head) → AllByRecursion (λ (h : Head). h.code < 256) hs → first_marked marks hs ≡ first_unknown known hs
   marked-is [] all = refl
   marked-is (h ∷ hs) all =
       let m = says.says h.code all.0 in
@@ -69,18 +69,18 @@ module _ (known : List Head) (marks : List Bool) (says : RowSays marks (λ c. no
   second-next t (Some h) r = refl
   second-next t None r = refl
 
-  blocks-unknown : (bs : List ℕ) (ts : List Task) → All (TaskRead bs) ts → second (marked_in marks ts) ≡ unknown_in known (block_lists ts)
+  blocks-unknown : (bs : List ℕ) (ts : List Task) → AllByRecursion (TaskRead bs) ts → second (marked_in marks ts) ≡ unknown_in known (block_lists ts)
   unfolding second
   blocks-unknown bs [] all = refl
   blocks-unknown bs (t ∷ ts) all =
       second-next (task_head t) (first_marked marks (block_heads t.blocks)) (marked_in marks ts)
       ∙ (λ i. option_or (marked-is (block_heads t.blocks) (small-blocks (suc (length bs)) bs 0 _ (t.blocks, all.0.end) all.0.blocks_are) i) (blocks-unknown bs ts all.1 i))
 
-  pub block-unknown : (bs : List ℕ) (ts : List Task) (x : Head × Head) → All (TaskRead bs) ts → Some x ≡ marked_in marks ts → unknown_in known (block_lists ts) ≡ Some x.1
+  pub block-unknown : (bs : List ℕ) (ts : List Task) (x : Head × Head) → AllByRecursion (TaskRead bs) ts → Some x ≡ marked_in marks ts → unknown_in known (block_lists ts) ≡ Some x.1
   unfolding second
   block-unknown bs ts x all e = sym (blocks-unknown bs ts all) ∙ ap second (sym e)
 
-  pub blocks-known : (bs : List ℕ) (ts : List Task) → All (TaskRead bs) ts → None ≡ marked_in marks ts → unknown_in known (block_lists ts) ≡ None
+  pub blocks-known : (bs : List ℕ) (ts : List Task) → AllByRecursion (TaskRead bs) ts → None ≡ marked_in marks ts → unknown_in known (block_lists ts) ≡ None
   unfolding second
   blocks-known bs ts all e = sym (blocks-unknown bs ts all) ∙ ap second (sym e)
 
@@ -92,16 +92,16 @@ closed_same t u code (suc n) few small same i c h k =
     let less = closed_same t u code n (omega arith) (λ j l. small j (omega arith)) same in
     (λ x. less i c h k x || (less i (code n) h (small n (omega arith)) x && less n c (omega arith) k x))
 
-cycle_from_same : (t u : Table) (hs : List Head) (i : ℕ) → i + length hs ≤ 32 → All (λ (h : Head). h.code < 256) hs → ((j c : ℕ) → j < 32 → c < 256 → t j c ≡ u j c) → cycle_from t i hs ≡ cycle_from u i hs
+cycle_from_same : (t u : Table) (hs : List Head) (i : ℕ) → i + length hs ≤ 32 → AllByRecursion (λ (h : Head). h.code < 256) hs → ((j c : ℕ) → j < 32 → c < 256 → t j c ≡ u j c) → cycle_from t i hs ≡ cycle_from u i hs
 cycle_from_same t u [] i few all same = refl
 cycle_from_same t u (h ∷ hs) i few all same =
     (λ x. cond (same i h.code (omega arith) all.0 x) (Some h) (cycle_from_same t u hs (i + 1) (omega arith) all.1 same x))
 
-small_heads : (bs : List ℕ) (rs : List Routine) → All (BodyRead bs) rs → All (λ (h : Head). h.code < 256) (map routine_head rs)
+small_heads : (bs : List ℕ) (rs : List Routine) → AllByRecursion (BodyRead bs) rs → AllByRecursion (λ (h : Head). h.code < 256) (map routine_head rs)
 small_heads bs [] all = tt
 small_heads bs (r ∷ rs) all = (small-code bs r all.0, small_heads bs rs all.1)
 
-pub cycle_same : (bs : List ℕ) (rs : List Routine) (calls rows : List (List Bool)) → All (BodyRead bs) rs → length rs ≤ 32 → Tabled calls (table_of (call_lists rs)) → Tabled rows (closed (entry calls) (code_at (map routine_head rs)) (length (map routine_head rs))) → cycle_from (entry rows) 0 (map routine_head rs) ≡ cycle_from (closed (table_of (call_lists rs)) (code_at (map routine_head rs)) (length rs)) 0 (map routine_head rs)
+pub cycle_same : (bs : List ℕ) (rs : List Routine) (calls rows : List (List Bool)) → AllByRecursion (BodyRead bs) rs → length rs ≤ 32 → Tabled calls (table_of (call_lists rs)) → Tabled rows (closed (entry calls) (code_at (map routine_head rs)) (length (map routine_head rs))) → cycle_from (entry rows) 0 (map routine_head rs) ≡ cycle_from (closed (table_of (call_lists rs)) (code_at (map routine_head rs)) (length rs)) 0 (map routine_head rs)
 cycle_same bs rs calls rows all few direct reach =
     let long = length-map rs routine_head in
     let small = small_heads bs rs all in
@@ -111,7 +111,7 @@ cycle_same bs rs calls rows all few direct reach =
     ∙ closed_same (entry calls) (table_of (call_lists rs)) (code_at (map routine_head rs)) (length rs) few (λ m l. All-get_or (λ (x : Head). x.code < 256) (map routine_head rs) m (head 0 0) (omega (arith, long)) small) direct.says j c h k)
 
 -- capped costs tell the same dear routine
-pub dear_same : (bs : List ℕ) (of : ℕ → ℕ) (costs : List ℕ) (rs : List Routine) → All (BodyRead bs) rs → Capped costs of → dear_from (cost_of_code costs) (map routine_head rs) ≡ dear_from of (map routine_head rs)
+pub dear_same : (bs : List ℕ) (of : ℕ → ℕ) (costs : List ℕ) (rs : List Routine) → AllByRecursion (BodyRead bs) rs → Capped costs of → dear_from (cost_of_code costs) (map routine_head rs) ≡ dear_from of (map routine_head rs)
 dear_same bs of costs [] all g = refl
 dear_same bs of costs (r ∷ rs) all g =
     let same = g.says r.code (small-code bs r all.0) in

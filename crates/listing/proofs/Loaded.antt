@@ -2,7 +2,7 @@
 use Rattle.std.proofs.Common.{◌≡◌, ℕ, suc, ◌+◌, ◌<◌, ◌≤◌, true, ◌&&◌, List, [], ◌∷◌, ◌++◌, map, length, get_or, take, Some, Ok, sym, ap, ◌∙◌, subst, arith, le-leb}
 use Rattle.std.proofs.lemmas.List.{take_more, take_all, get_or-map, length-map}
 use Rattle.std.proofs.ByRecursion.{All-get_or}
-use Rattle.std.specs.List.{AllByRecursion as All}
+use Rattle.std.specs.List.{AllByRecursion}
 use Rattle.tasks.specs.Ranges.{clock_fits}
 use Rattle.tasks.specs.declared.model.Task.{Task as HeldTask}
 use Rattle.commands.specs.declared.table.Context.TheVariants.{Tasks}
@@ -44,7 +44,7 @@ Are-push of [] (u ∷ us) x t a i = absurd a
 Are-push of (y ∷ ys) [] x t a i = absurd a
 Are-push of (y ∷ ys) (u ∷ us) x t a i = (a.0, Are-push of ys us x t a.1 i)
 
-module _ (bs : List ℕ) (of : ℕ → ℕ) (ts : List Task) (hs : List Head) (heads_are : hs ≡ map task_head ts) (all : All (TaskRead bs) ts) (priced : All (λ (t : Task). Priced of t.blocks) ts) (i : ℕ) where
+module _ (bs : List ℕ) (of : ℕ → ℕ) (ts : List Task) (hs : List Head) (heads_are : hs ≡ map task_head ts) (all : AllByRecursion (TaskRead bs) ts) (priced : AllByRecursion (λ (t : Task). Priced of t.blocks) ts) (i : ℕ) where
   pub all_loaded : (xs : List HeldTask) → length hs ≤ i → Are of xs (take i ts) → Are of xs ts
   all_loaded xs h a = subst (Are of xs) (take_all i ts (omega (arith, ap length heads_are ∙ length-map ts task_head))) a
 

@@ -2,7 +2,7 @@
 use Rattle.std.proofs.Common.{◌≡◌, ℕ, ◌+◌, ◌<◌, ◌≤◌, Bool, List, map, length, get_or, drop, Some, None, Ok, Option, sym, ap, ◌∙◌, arith}
 use Rattle.std.proofs.lemmas.List.{at_drop_more, at_drop_all, get_or-map, length-map}
 use Rattle.std.proofs.ByRecursion.{All-get_or}
-use Rattle.std.specs.List.{AllByRecursion as All}
+use Rattle.std.specs.List.{AllByRecursion}
 use Rattle.reading.specs.declared.heads.Head.{Head}
 use Rattle.reading.specs.Heads.{head}
 use Rattle.reading.specs.Trees.{Blocks, final, Task, block_heads}
@@ -14,7 +14,7 @@ use Rattle.reading.specs.Bodies.{TaskRead}
 pub no_task : Task
 no_task = record { code = 0; at = 0; period = 0; deadline = 0; blocks = final 0 0 }
 
-module _ (bs : List ℕ) (ts : List Task) (hs : List Head) (heads_are : hs ≡ map task_head ts) (all : All (TaskRead bs) ts) (i : ℕ) where
+module _ (bs : List ℕ) (ts : List Task) (hs : List Head) (heads_are : hs ≡ map task_head ts) (all : AllByRecursion (TaskRead bs) ts) (i : ℕ) where
   pub tasks-past : (marks : List Bool) → length hs ≤ i → marked_in marks (drop i ts) ≡ None
   tasks-past marks h = at_drop_all (marked_in marks) ts i (omega (arith, ap length heads_are ∙ length-map ts task_head))
 

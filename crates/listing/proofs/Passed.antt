@@ -3,7 +3,7 @@ use Rattle.std.proofs.Common.{◌≡◌, ℕ, zero, suc, ◌+◌, ◌-◌, ◌*�
 use Rattle.std.proofs.lemmas.List.{at_drop_more, at_drop_all, get_or-map, get_or_past, length-map}
 use Rattle.std.proofs.lemmas.Bool.{cond-true, cond-false, cases_eq, cases_lt}
 use Rattle.std.proofs.ByRecursion.{All-get_or}
-use Rattle.std.specs.List.{AllByRecursion as All}
+use Rattle.std.specs.List.{AllByRecursion}
 use Rattle.reading.specs.declared.heads.Head.{Head}
 use Rattle.commands.specs.declared.table.Context.TheVariants.{Top}
 use Rattle.commands.specs.Commands.{after}
@@ -58,7 +58,7 @@ pub none-costed : (of : ℕ → ℕ) (rs : List Routine) (n : ℕ) → length rs
 none-costed of rs n h =
     record { wide = refl; says = λ c _. zeros 256 c ∙ sym (ap (λ f. min f 1000001) (at_drop_all (λ l. cost_by of l c) rs n h)) }
 
-module _ (bs : List ℕ) (of : ℕ → ℕ) (rs : List Routine) (hs : List Head) (heads_are : hs ≡ map routine_head rs) (bodies : All (BodyRead bs) rs) (i : ℕ) (some : 0 < i) (inside : i ≤ length hs) where
+module _ (bs : List ℕ) (of : ℕ → ℕ) (rs : List Routine) (hs : List Head) (heads_are : hs ≡ map routine_head rs) (bodies : AllByRecursion (BodyRead bs) rs) (i : ℕ) (some : 0 < i) (inside : i ≤ length hs) where
   low : i - 1 < length rs
   low = omega (arith, ap length heads_are ∙ length-map rs routine_head)
 
@@ -102,12 +102,12 @@ module _ (bs : List ℕ) (of : ℕ → ℕ) (rs : List Routine) (hs : List Head)
 pub small-code : (bs : List ℕ) (r : Routine) → BodyRead bs r → r.code < 256
 small-code bs r b = small_routine Top bs r.at r.at r.code b.command_is
 
-no_cost : (of : ℕ → ℕ) (bs : List ℕ) (rs : List Routine) (c : ℕ) → All (BodyRead bs) rs → 256 ≤ c → cost_by of rs c ≡ 0
+no_cost : (of : ℕ → ℕ) (bs : List ℕ) (rs : List Routine) (c : ℕ) → AllByRecursion (BodyRead bs) rs → 256 ≤ c → cost_by of rs c ≡ 0
 no_cost of bs [] c all h = refl
 no_cost of bs (r ∷ rs) c all h =
     cond-false _ _ _ (ne_eqb r.code c (λ e. absurd (omega (arith, small-code bs r all.0)))) ∙ no_cost of bs rs c all.1 h
 
-no_cost_in : (bs : List ℕ) (rs : List Routine) (k c : ℕ) → All (BodyRead bs) rs → 256 ≤ c → cost_in rs k c ≡ 0
+no_cost_in : (bs : List ℕ) (rs : List Routine) (k c : ℕ) → AllByRecursion (BodyRead bs) rs → 256 ≤ c → cost_in rs k c ≡ 0
 unfolding cost_in
 no_cost_in bs rs zero c all h = refl
 no_cost_in bs rs (suc k) c all h = no_cost (cost_in rs k) bs rs c all h
@@ -117,7 +117,7 @@ unfolding cost_in
 first-costs rs = record { wide = refl; says = λ c _. zeros 256 c }
 
 -- one pass more
-pub pass_more : (bs : List ℕ) (rs : List Routine) (k : ℕ) (costs table : List ℕ) → All (BodyRead bs) rs → Capped costs (cost_in rs k) → Capped table (cost_by (cost_of_code costs) rs) → Capped table (cost_in rs (k + 1))
+pub pass_more : (bs : List ℕ) (rs : List Routine) (k : ℕ) (costs table : List ℕ) → AllByRecursion (BodyRead bs) rs → Capped costs (cost_in rs k) → Capped table (cost_by (cost_of_code costs) rs) → Capped table (cost_in rs (k + 1))
 unfolding cost_in
 pass_more bs rs k costs table all before now =
     let agree : (c : ℕ) → cost_of_code costs c ≡ min (cost_in rs k c) 1000001 = λ c. ⊎_elim

@@ -1,7 +1,7 @@
 -- The commands of calls and blocks stand at their offsets. Assumes nothing.
-use Rattle.std.proofs.Common.{◌≡◌, ℕ, zero, suc, ◌+◌, ◌<◌, Bool, true, false, cond, ◌⊎◌, List, [], ◌∷◌, Some, None, Ok, Err, Option, Result, sym, ap, ◌∙◌, subst, ⊎_elim}
+use Rattle.std.proofs.Common.{◌≡◌, ℕ, zero, suc, ◌+◌, ◌<◌, Bool, true, false, cond, List, [], ◌∷◌, Some, None, Ok, Err, Option, Result, sym, ap, ◌∙◌, subst, ⊎_elim}
 use Rattle.std.specs.Option.{option_or}
-use Rattle.std.specs.List.{AllByRecursion as All}
+use Rattle.std.specs.List.{AllByRecursion}
 use Rattle.faults.specs.declared.fault.ReadFault.{ReadFault}
 use Rattle.commands.specs.declared.table.Command.{Command}
 use Rattle.commands.specs.declared.table.Command.TheVariants as command
@@ -26,7 +26,7 @@ at_offset context bs p at k e = ap (answer context bs) (here context bs p at k e
 abbrev pub Headed : Context → (ℕ → Command) → List ℕ → Head → Type 0
 Headed context made bs h = answer context bs h.at ≡ Ok (Some (h.at, made h.code))
 
-turn_by : (bs : List ℕ) (rest : List Head) (at : ℕ) (k : Command) → answer Body bs at ≡ Ok (Some (at, k)) → All (Headed Body command.Call bs) rest → All (Headed Body command.Call bs) (by_call (λ n. head n at ∷ rest) [] rest k)
+turn_by : (bs : List ℕ) (rest : List Head) (at : ℕ) (k : Command) → answer Body bs at ≡ Ok (Some (at, k)) → AllByRecursion (Headed Body command.Call bs) rest → AllByRecursion (Headed Body command.Call bs) (by_call (λ n. head n at ∷ rest) [] rest k)
 turn_by bs rest at (command.Routine n) e all = all
 turn_by bs rest at (command.Work n) e all = all
 turn_by bs rest at (command.Call n) e all = (e, all)
@@ -42,33 +42,33 @@ turn_by bs rest at (command.Point n m) e all = all
 turn_by bs rest at command.EndTask e all = all
 turn_by bs rest at command.Sheet e all = all
 
-turn-stands : (bs : List ℕ) (p : ℕ) (rest : List Head) (r : Result (Option (ℕ × Command)) ReadFault) → answer Body bs p ≡ r → All (Headed Body command.Call bs) rest → All (Headed Body command.Call bs) (calls-turn rest r)
+turn-stands : (bs : List ℕ) (p : ℕ) (rest : List Head) (r : Result (Option (ℕ × Command)) ReadFault) → answer Body bs p ≡ r → AllByRecursion (Headed Body command.Call bs) rest → AllByRecursion (Headed Body command.Call bs) (calls-turn rest r)
 turn-stands bs p rest (Ok None) e all = tt
 turn-stands bs p rest (Ok (Some c)) e all = turn_by bs rest c.0 c.1 (at_offset Body bs p c.0 c.1 e) all
 turn-stands bs p rest (Err f) e all = tt
 
-pub calls_stand : (n : ℕ) (bs : List ℕ) (p : ℕ) → All (Headed Body command.Call bs) (calls_from bs n p)
+pub calls_stand : (n : ℕ) (bs : List ℕ) (p : ℕ) → AllByRecursion (Headed Body command.Call bs) (calls_from bs n p)
 unfolding calls_from
 calls_stand zero bs p = tt
 calls_stand (suc n) bs p = turn-stands bs p (calls_from bs n (after Body bs p)) (answer Body bs p) (λ i. answer Body bs p) (calls_stand n bs (after Body bs p))
 
-pub blocks_stand : (n : ℕ) (bs : List ℕ) (count p : ℕ) (b : Blocks × ℕ) → blocks_from bs n count p ≡ Ok b → All (Headed BlockDue command.Block bs) (block_heads b.0)
+pub blocks_stand : (n : ℕ) (bs : List ℕ) (count p : ℕ) (b : Blocks × ℕ) → blocks_from bs n count p ≡ Ok b → AllByRecursion (Headed BlockDue command.Block bs) (block_heads b.0)
 unfolding blocks_from
 blocks_stand zero bs count p b e = refused e
 blocks_stand (suc n) bs count p b e =
     let f : FirstBlock bs n count p b = first_block bs n count p b e in
     let one = at_offset BlockDue bs p f.at (command.Block f.code) f.command_is in
     ⊎_elim
-    (λ x. subst (λ y. All (Headed BlockDue command.Block bs) (block_heads y)) (sym x.1) (one, tt))
-    (λ x. subst (λ y. All (Headed BlockDue command.Block bs) (block_heads y)) (sym x.5) (one, blocks_stand n bs (count + 1) _ (x.2, b.1) x.4))
+    (λ x. subst (λ y. AllByRecursion (Headed BlockDue command.Block bs) (block_heads y)) (sym x.1) (one, tt))
+    (λ x. subst (λ y. AllByRecursion (Headed BlockDue command.Block bs) (block_heads y)) (sym x.5) (one, blocks_stand n bs (count + 1) _ (x.2, b.1) x.4))
     f.follows
 
 -- so the codes of blocks are bytes
-small_all : (bs : List ℕ) (hs : List Head) → All (Headed BlockDue command.Block bs) hs → All (λ (h : Head). h.code < 256) hs
+small_all : (bs : List ℕ) (hs : List Head) → AllByRecursion (Headed BlockDue command.Block bs) hs → AllByRecursion (λ (h : Head). h.code < 256) hs
 small_all bs [] all = tt
 small_all bs (h ∷ hs) all = (small-block BlockDue bs h.at h.at h.code all.0, small_all bs hs all.1)
 
-pub small-blocks : (n : ℕ) (bs : List ℕ) (count p : ℕ) (b : Blocks × ℕ) → blocks_from bs n count p ≡ Ok b → All (λ (h : Head). h.code < 256) (block_heads b.0)
+pub small-blocks : (n : ℕ) (bs : List ℕ) (count p : ℕ) (b : Blocks × ℕ) → blocks_from bs n count p ≡ Ok b → AllByRecursion (λ (h : Head). h.code < 256) (block_heads b.0)
 small-blocks n bs count p b e = small_all bs (block_heads b.0) (blocks_stand n bs count p b e)
 
 -- what holds of all heads holds of the first that is picked
@@ -84,10 +84,10 @@ pub self_has : (P : Head → Type 0) (x h : Head) → P x → Some x ≡ Some h 
 self_has P x h p e = let same : x ≡ h = cc in subst P same p
 
 module _ (P : Head → Type 0) (known : List Head) where
-  first_has : (hs : List Head) (h : Head) → All P hs → first_unknown known hs ≡ Some h → P h
+  first_has : (hs : List Head) (h : Head) → AllByRecursion P hs → first_unknown known hs ≡ Some h → P h
   first_has [] h all e = nothing e
   first_has (x ∷ xs) h all e = cond_has P (used x.code known) (first_unknown known xs) (Some x) h (first_has xs h all.1) (self_has P x h all.0) e
 
-  pub unknown_has : (lists : List (List Head)) (h : Head) → All (All P) lists → unknown_in known lists ≡ Some h → P h
+  pub unknown_has : (lists : List (List Head)) (h : Head) → AllByRecursion (AllByRecursion P) lists → unknown_in known lists ≡ Some h → P h
   unknown_has [] h all e = nothing e
   unknown_has (hs ∷ lists) h all e = either_has P (first_unknown known hs) (unknown_in known lists) h (first_has hs h all.0) (unknown_has lists h all.1) e

@@ -1,6 +1,6 @@
 -- What loading tells of a listing. Assumes nothing.
 use Rattle.std.specs.Prelude.{◌≡◌, ℕ, ◌≤◌, true, cond, List, [], ◌∷◌, map, length, Some, None, Ok, Err, vec_items, Option, Result, Vec, ◌==◌}
-use Rattle.std.specs.List.{AllByRecursion as All}
+use Rattle.std.specs.List.{AllByRecursion}
 use Rattle.tasks.specs.declared.blocks.Block.{Block}
 use Rattle.tasks.specs.declared.points.Point.{Point}
 use Rattle.tasks.specs.Ranges.{body_fits}
@@ -69,7 +69,7 @@ loading bs = loaded_after (costing bs)
 
 -- every block's routine costs 1 to 1,000,000
 abbrev pub Priced : (ℕ → ℕ) → Blocks → Type 0
-Priced of b = All (λ (h : Head). (1 ≤ of h.code) × (of h.code ≤ 1000000)) (block_heads b)
+Priced of b = AllByRecursion (λ (h : Head). (1 ≤ of h.code) × (of h.code ≤ 1000000)) (block_heads b)
 
 -- blocks and points that make the body of a task
 pub record Made (of : ℕ → ℕ) (b : Blocks) (blocks : List Block) (points : List Point) : Type 0 where

@@ -2,7 +2,7 @@
 ghost use Rattle.std.specs.Prelude.{◌≡◌, ℕ, ◌<◌, ◌≤◌, not, List, map, length, IfSome, Ok, OnSome};
 ghost use Rattle.commands.specs.declared.table.Context.TheVariants.{Tasks, BlockDue, AfterBlock};
 ghost use Rattle.commands.specs.Commands.{answer, after};
-ghost use Rattle.std.specs.List.{AllByRecursion as All};
+ghost use Rattle.std.specs.List.{AllByRecursion};
 ghost use Rattle.reading.specs.Bodies.{TaskRead};
 ghost use Rattle.listing.specs.Cycles.{RowSays};
 ghost use Rattle.reading.specs.Heads.{used};
@@ -106,7 +106,7 @@ pub(crate) fn marked_block(
     tasks: &[Head],
     marks: &[bool; 256],
 ) -> Option<(Head, Head)>
-    ensures { (ts : List Task) → tasks.now ≡ map task_head ts → All (TaskRead bytes.now) ts → result ≡ marked_in marks.now ts }
+    ensures { (ts : List Task) → tasks.now ≡ map task_head ts → AllByRecursion (TaskRead bytes.now) ts → result ≡ marked_in marks.now ts }
 {
     for task in tasks {
         if let Some(block) = first_block(bytes, task.at, marks) {

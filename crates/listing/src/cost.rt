@@ -1,7 +1,7 @@
 // Costing: unknown routines, cycles of calls, and what each routine costs.
 ghost use Rattle.std.specs.Prelude.{◌≡◌, List, map, Ok};
 ghost use Rattle.std.specs.Option.{option_or};
-ghost use Rattle.std.specs.List.{AllByRecursion as All};
+ghost use Rattle.std.specs.List.{AllByRecursion};
 ghost use Rattle.reading.specs.Bodies.{TaskRead};
 ghost use Rattle.reading.specs.Listings.{task_head};
 ghost use Rattle.reading.specs.Trees.{Task};
@@ -22,7 +22,7 @@ use reading::read::read;
 
 // The first block of a code that no routine has.
 fn unknown_block(bytes: &[u8], routines: &[Head], tasks: &[Head]) -> Option<Head>
-    ensures { (ts : List Task) → tasks.now ≡ map task_head ts → All (TaskRead bytes.now) ts → result ≡ unknown_in routines.now (block_lists ts) }
+    ensures { (ts : List Task) → tasks.now ≡ map task_head ts → AllByRecursion (TaskRead bytes.now) ts → result ≡ unknown_in routines.now (block_lists ts) }
 {
     let strange = unlisted(routines);
     match marked_block(bytes, tasks, &strange) {

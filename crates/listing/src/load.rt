@@ -2,7 +2,7 @@
 ghost use Rattle.std.specs.Prelude.{◌≡◌, ℕ, suc, ◌<◌, List, map, length, Ok, nat_eq};
 ghost use Rattle.reading.specs.Listings.{blocks_from, task_head};
 ghost use Rattle.listing.specs.Loading.{Priced, BodyTold, TaskTold, TasksTold, LoadTold};
-ghost use Rattle.std.specs.List.{AllByRecursion as All};
+ghost use Rattle.std.specs.List.{AllByRecursion};
 ghost use Rattle.reading.specs.Bodies.{TaskRead};
 ghost use Rattle.listing.specs.Cycles.{RowSays};
 ghost use Rattle.reading.specs.Runs.{cost_of_code};
@@ -89,7 +89,7 @@ fn load_tasks(
     costs: &[u32; 256],
     tasks: &[Head],
 ) -> Result<Vec<Task>, LoadFault>
-    ensures { (ts : List TreeTask) → tasks.now ≡ map task_head ts → All (TaskRead bytes.now) ts → All (λ (t : TreeTask). Priced (cost_of_code costs.now) t.blocks) ts → TasksTold (cost_of_code costs.now) ts result }
+    ensures { (ts : List TreeTask) → tasks.now ≡ map task_head ts → AllByRecursion (TaskRead bytes.now) ts → AllByRecursion (λ (t : TreeTask). Priced (cost_of_code costs.now) t.blocks) ts → TasksTold (cost_of_code costs.now) ts result }
 {
     let mut loaded = Vec::new(heap);
     for head in tasks {

@@ -1,6 +1,6 @@
 // What routines cost: passes over all of them, each by the costs of the pass before.
 ghost use Rattle.std.specs.Prelude.{◌≡◌, ◌<◌, min, List, map, Some, None, Ok};
-ghost use Rattle.std.specs.List.{AllByRecursion as All};
+ghost use Rattle.std.specs.List.{AllByRecursion};
 ghost use Rattle.commands.specs.declared.table.Context.TheVariants.{Top};
 ghost use Rattle.commands.specs.Commands.{after};
 ghost use Rattle.reading.specs.Bodies.{BodyRead};
@@ -29,7 +29,7 @@ fn routine_cost(bytes: &[u8], costs: &[u32; 256], at: usize) -> u32
 
 // One pass: what each routine costs, by the costs of the pass before.
 fn pass_costs(bytes: &[u8], routines: &[Head], costs: &[u32; 256]) -> [u32; 256]
-    ensures { (rs : List Routine) → routines.now ≡ map routine_head rs → All (BodyRead bytes.now) rs → Capped result (cost_by (cost_of_code costs.now) rs) }
+    ensures { (rs : List Routine) → routines.now ≡ map routine_head rs → AllByRecursion (BodyRead bytes.now) rs → Capped result (cost_by (cost_of_code costs.now) rs) }
 {
     let mut next = [0u32; 256];
     let mut i = routines.len();
@@ -43,7 +43,7 @@ fn pass_costs(bytes: &[u8], routines: &[Head], costs: &[u32; 256]) -> [u32; 256]
 
 // What each routine costs after 32 passes.
 pub(crate) fn settled(bytes: &[u8], routines: &[Head]) -> [u32; 256]
-    ensures { (rs : List Routine) → routines.now ≡ map routine_head rs → All (BodyRead bytes.now) rs → Capped result (cost_in rs 32) }
+    ensures { (rs : List Routine) → routines.now ≡ map routine_head rs → AllByRecursion (BodyRead bytes.now) rs → Capped result (cost_in rs 32) }
 {
     let mut costs = [0u32; 256];
     for turn in 0..32usize {

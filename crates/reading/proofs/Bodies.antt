@@ -1,7 +1,7 @@
 -- What a listing that is read says of each routine and each task. Assumes nothing.
 use Rattle.std.proofs.Common.{◌≡◌, ℕ, zero, suc, ◌<◌, false, cond, leb, ◌⊎◌, List, length, Some, None, Ok, Err, Option, Result, sym, refl, ap, ◌∙◌, subst, inl, inr, ⊎_elim}
 use Rattle.std.proofs.lemmas.Bool.{cases_Bool, cond-true, cond-false, leb-false}
-use Rattle.std.specs.List.{AllByRecursion as All}
+use Rattle.std.specs.List.{AllByRecursion}
 use Rattle.faults.specs.declared.fault.ReadFault.{ReadFault}
 use Rattle.faults.specs.declared.fault.ReadFault.TheVariants.{CodeUsed, TooMany}
 use Rattle.commands.specs.declared.table.Command.{Command}
@@ -81,12 +81,12 @@ closed_cmd command.EndTask t e x h = refused h
 closed_cmd command.Sheet t e x h = refused h
 
 module _ (bs : List ℕ) where
-  routine_read : (n : ℕ) → ((seen : List Head) (p : ℕ) (rs : List Routine × ℕ) → routines_from bs n seen p ≡ Ok rs → All (BodyRead bs) rs.0) → (seen : List Head) (p : ℕ) (rs : List Routine × ℕ) (r : Result (Option (ℕ × Command)) ReadFault) → answer Top bs p ≡ r → routine_turn bs seen (routines_from bs n) p (after Top bs p) r ≡ Ok rs → All (BodyRead bs) rs.0
-  routine_read n more seen p rs (Ok None) a h = subst (λ (x : List Routine × ℕ). All (BodyRead bs) x.0) (inside h) tt
+  routine_read : (n : ℕ) → ((seen : List Head) (p : ℕ) (rs : List Routine × ℕ) → routines_from bs n seen p ≡ Ok rs → AllByRecursion (BodyRead bs) rs.0) → (seen : List Head) (p : ℕ) (rs : List Routine × ℕ) (r : Result (Option (ℕ × Command)) ReadFault) → answer Top bs p ≡ r → routine_turn bs seen (routines_from bs n) p (after Top bs p) r ≡ Ok rs → AllByRecursion (BodyRead bs) rs.0
+  routine_read n more seen p rs (Ok None) a h = subst (λ (x : List Routine × ℕ). AllByRecursion (BodyRead bs) x.0) (inside h) tt
   routine_read n more seen p rs (Err f) a h = refused h
   routine_read n more seen p rs (Ok (Some c)) a h =
       ⊎_elim
-      (λ x. subst (λ (y : List Routine × ℕ). All (BodyRead bs) y.0) (inside x) tt)
+      (λ x. subst (λ (y : List Routine × ℕ). AllByRecursion (BodyRead bs) y.0) (inside x) tt)
       (λ x.
       let at_p : c.0 ≡ p = here Top bs p c.0 c.1 a in
       let w = went _ (run_at 9 bs c.0 (after Top bs p)) rs (admitted x.0 c.0 seen _ rs x.2).2 in
@@ -103,16 +103,16 @@ module _ (bs : List ℕ) where
         last-is = k.0;
       }
       in
-      subst (λ (y : List Routine × ℕ). All (BodyRead bs) y.0) (inside v.2) (one, rest))
+      subst (λ (y : List Routine × ℕ). AllByRecursion (BodyRead bs) y.0) (inside v.2) (one, rest))
       (routine_cmd c.1 _ _ rs h)
 
-  pub all_bodies : (n : ℕ) (seen : List Head) (p : ℕ) (rs : List Routine × ℕ) → routines_from bs n seen p ≡ Ok rs → All (BodyRead bs) rs.0
+  pub all_bodies : (n : ℕ) (seen : List Head) (p : ℕ) (rs : List Routine × ℕ) → routines_from bs n seen p ≡ Ok rs → AllByRecursion (BodyRead bs) rs.0
   unfolding routines_from
   all_bodies zero seen p rs e = refused e
   all_bodies (suc n) seen p rs e = routine_read n (all_bodies n) seen p rs (answer Top bs p) refl e
 
-  task_read : (n : ℕ) → ((seen : List Head) (p : ℕ) (ts : List Task × ℕ) → tasks_from bs n seen p ≡ Ok ts → All (TaskRead bs) ts.0) → (seen : List Head) (p : ℕ) (ts : List Task × ℕ) (r : Result (Option (ℕ × Command)) ReadFault) → answer Tasks bs p ≡ r → task_turn bs seen (tasks_from bs n) p (after Tasks bs p) r ≡ Ok ts → All (TaskRead bs) ts.0
-  task_read n more seen p ts (Ok None) a h = subst (λ (x : List Task × ℕ). All (TaskRead bs) x.0) (inside h) tt
+  task_read : (n : ℕ) → ((seen : List Head) (p : ℕ) (ts : List Task × ℕ) → tasks_from bs n seen p ≡ Ok ts → AllByRecursion (TaskRead bs) ts.0) → (seen : List Head) (p : ℕ) (ts : List Task × ℕ) (r : Result (Option (ℕ × Command)) ReadFault) → answer Tasks bs p ≡ r → task_turn bs seen (tasks_from bs n) p (after Tasks bs p) r ≡ Ok ts → AllByRecursion (TaskRead bs) ts.0
+  task_read n more seen p ts (Ok None) a h = subst (λ (x : List Task × ℕ). AllByRecursion (TaskRead bs) x.0) (inside h) tt
   task_read n more seen p ts (Err f) a h = refused h
   task_read n more seen p ts (Ok (Some c)) a h =
       let x = task_cmd c.1 _ _ ts h in
@@ -128,9 +128,9 @@ module _ (bs : List ℕ) where
         blocks_are = ap (λ q. blocks_from bs (suc (length bs)) 0 (after Tasks bs q)) at_p ∙ w.1;
       }
       in
-      subst (λ (y : List Task × ℕ). All (TaskRead bs) y.0) (inside v.2) (one, rest)
+      subst (λ (y : List Task × ℕ). AllByRecursion (TaskRead bs) y.0) (inside v.2) (one, rest)
 
-  pub all-tasks : (n : ℕ) (seen : List Head) (p : ℕ) (ts : List Task × ℕ) → tasks_from bs n seen p ≡ Ok ts → All (TaskRead bs) ts.0
+  pub all-tasks : (n : ℕ) (seen : List Head) (p : ℕ) (ts : List Task × ℕ) → tasks_from bs n seen p ≡ Ok ts → AllByRecursion (TaskRead bs) ts.0
   unfolding tasks_from
   all-tasks zero seen p ts e = refused e
   all-tasks (suc n) seen p ts e = task_read n (all-tasks n) seen p ts (answer Tasks bs p) refl e

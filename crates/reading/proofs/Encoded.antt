@@ -1,10 +1,10 @@
 -- Bytes that are accepted are those of their tree. Assumes nothing.
-use Rattle.std.proofs.Common.{◌≡◌, ℕ, zero, suc, ◌+◌, ◌*◌, ◌/◌, ◌%◌, ◌<◌, ◌≤◌, true, false, eqb, ltb, ◌⊎◌, List, [], ◌∷◌, length, take, drop, Some, None, Ok, Err, Option, Result, sym, refl, ap, ◌∙◌, subst, ⊎_elim, mod-eq_of_lt, zero-add, one-add, arith, lit<, length-drop}
+use Rattle.std.proofs.Common.{◌≡◌, ℕ, zero, suc, ◌+◌, ◌*◌, ◌/◌, ◌%◌, ◌<◌, ◌≤◌, true, false, eqb, ltb, List, [], ◌∷◌, length, take, drop, Some, None, Ok, Err, Option, Result, sym, refl, ap, ◌∙◌, subst, ⊎_elim, mod-eq_of_lt, zero-add, one-add, arith, lit<, length-drop}
 use native.Mathlib.Nat.{add-mul-mod_self_left, add-mul-div_left, div-eq_of_lt}
 use Rattle.std.proofs.lemmas.List.{drop-drop}
 use Rattle.std.proofs.ByRecursion.{All-drop}
 use Rattle.std.proofs.lemmas.Bool.{cases_Bool, cond-true, cond-false, eqb-true, both_ways}
-use Rattle.std.specs.List.{AllByRecursion as All}
+use Rattle.std.specs.List.{AllByRecursion}
 use Rattle.faults.specs.declared.fault.ReadFault.{ReadFault}
 use Rattle.commands.specs.declared.table.Row.{Row}
 use Rattle.commands.specs.declared.table.Kind.TheVariants as kind
@@ -26,7 +26,7 @@ use Rattle.reading.proofs.Stepped.{refused, nothing, FirstBlock, first_block}
 use Rattle.reading.proofs.Bodies.{admitted, inside, routine_cmd, task_cmd, closed_cmd}
 
 abbrev Bytes : List ℕ → Type 0
-Bytes = All (λ b. b < 256)
+Bytes = AllByRecursion (λ b. b < 256)
 
 -- the bytes of one command
 abbrev spelled : Command → List ℕ → List ℕ
@@ -60,7 +60,7 @@ write-back (suc w) (x ∷ xs) h all =
 abbrev Spells : Row → Type 0
 Spells r = (r.kind ≡ kind.Sheet → ⊥) → (n : Numbers) (after : List ℕ) → r.byte ∷ write r.first.width n.first (write r.second.width n.second (write r.third.width n.third after)) ≡ spelled (command_of r.kind n) after
 
-found_all : (P : Row → Type 0) (xs : List Row) (b : ℕ) (r : Row) → All P xs → row_of xs b ≡ Some r → P r
+found_all : (P : Row → Type 0) (xs : List Row) (b : ℕ) (r : Row) → AllByRecursion P xs → row_of xs b ≡ Some r → P r
 found_all P [] b r all e = nothing e
 found_all P (x ∷ xs) b r all e =
     ⊎_elim

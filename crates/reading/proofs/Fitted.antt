@@ -1,8 +1,8 @@
 -- A tree that is read is within the ranges and counts. Assumes nothing.
-use Rattle.std.proofs.Common.{◌≡◌, ℕ, zero, suc, ◌+◌, ◌<◌, ◌≤◌, ltb, ◌⊎◌, List, [], length, get_or, drop, Some, None, Ok, Err, Option, Result, sym, refl, ap, ◌∙◌, subst, ⊎_elim, arith}
+use Rattle.std.proofs.Common.{◌≡◌, ℕ, zero, suc, ◌+◌, ◌<◌, ◌≤◌, ltb, List, [], length, get_or, drop, Some, None, Ok, Err, Option, Result, sym, refl, ap, ◌∙◌, subst, ⊎_elim, arith}
 use Rattle.std.proofs.lemmas.List.{length-map}
 use Rattle.std.proofs.ByRecursion.{All-from_get_or}
-use Rattle.std.specs.List.{AllByRecursion as All}
+use Rattle.std.specs.List.{AllByRecursion}
 use Rattle.std.proofs.lemmas.Bool.{cases_Bool, cond-true, cond-false, ltb-false}
 use Rattle.faults.specs.declared.fault.ReadFault.{ReadFault}
 use Rattle.commands.specs.declared.table.Kind.{Kind}
@@ -277,7 +277,7 @@ module _ (bs : List ℕ) where
       (both.0, both.1, short))
       (cases_Bool (ltb 32768 (length bs)))
 
-accepted-by : (bs : List ℕ) → All (λ b. b < 256) bs → (o : Outline) (r : Result Listing ReadFault) → listing bs ≡ r → told (Ok o) ≡ outline_of r → Accepted bs (Ok o)
+accepted-by : (bs : List ℕ) → AllByRecursion (λ b. b < 256) bs → (o : Outline) (r : Result Listing ReadFault) → listing bs ≡ r → told (Ok o) ≡ outline_of r → Accepted bs (Ok o)
 accepted-by bs all o (Ok l) e t = let same = accepted bs all l e in (l, e, same, read_fits bs l e same)
 accepted-by bs all o (Err f) e t = let z : ◌≡◌ {A = ℕ} 0 1 = cc in absurd (omega arith)
 

@@ -7,7 +7,7 @@ returns-in-len1-up t c =
     let h : 0 < length c.args.bytes.now = search rules in
     record {
       is = c.joined.ensures ∙ ap (λ n. get_or c.args.bytes.now 0 0 + 256 * n) c.number.ensures.is ∙ sym (low-front _ h);
-      fits = rw c.joined.ensures (wider _ _ _ _ (tail-length _ h) (c.type-inv.bytes 0).fits c.number.ensures.fits);
+      fits = rw c.joined.ensures (wider _ _ _ _ (tail-length _ h) (c.type_inv.bytes 0).fits c.number.ensures.fits);
     }
 
 pub returns-in-empty : goal.returns-in-empty

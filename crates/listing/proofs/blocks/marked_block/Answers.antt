@@ -15,4 +15,4 @@ returns-in-Some c ts e all =
 
 pub loop-task-preserved : goal.loop-task-preserved
 loop-task-preserved c ts e all =
-    block_none c.args.bytes.now ts c.args.tasks.now e all c.loop-task.task-index (omega arith) _ refl c.args.marks.now _ c.in-default.ensures refl ∙ c.loop-task.invariant ts e all
+    block_none c.args.bytes.now ts c.args.tasks.now e all c.loop-task.task-index (omega arith) _ refl c.args.marks.now _ c.in_default.ensures refl ∙ c.loop-task.invariant ts e all

@@ -7,7 +7,7 @@ loop-i-preserved c =
       simp length-set c.loop-i.invariant.0,
       below_more _ _
           (λ j h. let ne : j ≢ c.loop-i.i = omega arith in rw get_or-set_other (c.loop-i.invariant.1 j h))
-          (rw get_or-set_same c.row-through.ensures),
+          (rw get_or-set_same c.row_through.ensures),
     )
 
 pub returns : goal.returns

@@ -11,49 +11,49 @@ use Rattle.listing.proofs.load.load_parts.Goals as goal
 pub steps-init : goal.steps-init
 steps-init c = (refl, λ b q e p. building _ _ b q _ _ _ c.new-records.ensures.items c.new-points.ensures.items e p)
 
-pub returns-in-default : goal.returns-in-default
-returns-in-default c b q e p =
-    no_block _ _ _ _ _ _ (c.steps.invariant.1 b q e p) (sym (c.in-default.ensures.told ∙ ap (λ x. block_of (answer BlockDue x c.steps.reader.at)) c.steps.invariant.0))
+pub returns-in_default : goal.returns-in_default
+returns-in_default c b q e p =
+    no_block _ _ _ _ _ _ (c.steps.invariant.1 b q e p) (sym (c.in_default.ensures.told ∙ ap (λ x. block_of (answer BlockDue x c.steps.reader.at)) c.steps.invariant.0))
 
-pub returns-in-default-next-point : goal.returns-in-default-next-point
-returns-in-default-next-point c b q e p =
+pub returns-in_default-next_point : goal.returns-in_default-next_point
+returns-in_default-next_point c b q e p =
     let n = c.in-Some.ensures in
-    let m = c.in-default-next-point.ensures in
+    let m = c.in_default-next_point.ensures in
     let bs = c.steps.invariant.0 in
     let on = n.moved ∙ ap (λ x. after BlockDue x c.steps.reader.at) bs in
     let is = sym (n.told ∙ ap (λ x. block_of (answer BlockDue x c.steps.reader.at)) bs) in
     let then = sym (m.told ∙ (λ i. point_of (answer AfterBlock ((n.same ∙ bs) i) (on i)))) in
-    subst (λ l. Made (cost_of_code c.args.costs.now) b l (vec_items c.steps.points)) (sym c.in-ok-push.ensures.items)
+    subst (λ l. Made (cost_of_code c.args.costs.now) b l (vec_items c.steps.points)) (sym c.in_ok-push.ensures.items)
     (last_block _ _ _ _ _ _ (c.steps.invariant.1 b q e p) c.in-Some.head is (record { cost = get_or c.args.costs.now c.in-Some.head.code 0 }) refl then)
 
-pub returns-in-default-new : goal.returns-in-default-new
-returns-in-default-new c b q e p =
+pub returns-in_default-new : goal.returns-in_default-new
+returns-in_default-new c b q e p =
     let n = c.in-Some.ensures in
-    let m = c.in-Some-next-point.ensures in
+    let m = c.in-Some-next_point.ensures in
     let bs = c.steps.invariant.0 in
     let on = n.moved ∙ ap (λ x. after BlockDue x c.steps.reader.at) bs in
     let is = sym (n.told ∙ ap (λ x. block_of (answer BlockDue x c.steps.reader.at)) bs) in
     let then = sym (m.told ∙ (λ i. point_of (answer AfterBlock ((n.same ∙ bs) i) (on i)))) in
     let fits = le-leb _ _ (ticks-fit c.args.bytes.now _ _ _ then) in
-    absurd (both_ways _ (sym c.in-default-new.ensures.test) fits)
+    absurd (both_ways _ (sym c.in_default-new.ensures.test) fits)
 
 pub steps-preserved : goal.steps-preserved
 steps-preserved c =
     let n = c.in-Some.ensures in
-    let m = c.in-Some-next-point.ensures in
+    let m = c.in-Some-next_point.ensures in
     let bs = c.steps.invariant.0 in
     let on = n.moved ∙ ap (λ x. after BlockDue x c.steps.reader.at) bs in
     let is = sym (n.told ∙ ap (λ x. block_of (answer BlockDue x c.steps.reader.at)) bs) in
     let then = sym (m.told ∙ (λ i. point_of (answer AfterBlock ((n.same ∙ bs) i) (on i)))) in
     let long = ap length bs in
-    let first : (c.in-Some.head.code < 256) × (c.steps.reader.at < c.next-block.new.reader.at) × (c.next-block.new.reader.at ≤ length c.steps.reader.bytes.now) = n.forth in
-    let second : (c.next-block.new.reader.at < c.next-point.new.reader.at) × (c.next-point.new.reader.at ≤ length c.next-block.new.reader.bytes.now) = m.forth in
+    let first : (c.in-Some.head.code < 256) × (c.steps.reader.at < c.next_block.new.reader.at) × (c.next_block.new.reader.at ≤ length c.steps.reader.bytes.now) = n.forth in
+    let second : (c.next_block.new.reader.at < c.next_point.new.reader.at) × (c.next_point.new.reader.at ≤ length c.next_block.new.reader.bytes.now) = m.forth in
     let of = cost_of_code c.args.costs.now in
     let bs-now = c.args.bytes.now in (
       m.same ∙ n.same ∙ bs,
       λ b q e p.
-          subst (λ l. Building bs-now of b l (vec_items c.push-in-steps.new.self) c.next-point.new.reader.at) (sym c.in-ok-push.ensures.items)
-          (subst (λ l. Building bs-now of b (vec_items c.steps.records ++ record { cost = get_or c.args.costs.now c.in-Some.head.code 0 } ∷ []) l c.next-point.new.reader.at) (sym c.in-ok-push-2.ensures.items)
-          (one_more _ _ _ _ _ _ (c.steps.invariant.1 b q e p) c.in-Some.head is (record { cost = get_or c.args.costs.now c.in-Some.head.code 0 }) refl c.in-Some-next-point.ticks c.in-Some-next-point.charge c.in-Ok.point c.next-point.new.reader.at then c.in-Ok.ensures.made.0 c.in-Ok.ensures.made.1
+          subst (λ l. Building bs-now of b l (vec_items c.push-in-steps.new.self) c.next_point.new.reader.at) (sym c.in_ok-push.ensures.items)
+          (subst (λ l. Building bs-now of b (vec_items c.steps.records ++ record { cost = get_or c.args.costs.now c.in-Some.head.code 0 } ∷ []) l c.next_point.new.reader.at) (sym c.in_ok-push-2.ensures.items)
+          (one_more _ _ _ _ _ _ (c.steps.invariant.1 b q e p) c.in-Some.head is (record { cost = get_or c.args.costs.now c.in-Some.head.code 0 }) refl c.in-Some-next_point.ticks c.in-Some-next_point.charge c.in-Ok.point c.next_point.new.reader.at then c.in-Ok.ensures.made.0 c.in-Ok.ensures.made.1
           (m.moved ∙ (λ i. after AfterBlock ((n.same ∙ bs) i) (on i))) (omega arith) (omega arith))),
     )

@@ -5,17 +5,17 @@ use Rattle.reading.specs.Runs.{cost_of_code}
 use Rattle.listing.proofs.Loaded.{all_loaded, the_task, the_read, the_priced, the_place, load-more}
 use Rattle.listing.proofs.load.load_tasks.Goals as goal
 
-pub returns-in-err-task : goal.returns-in-err-task
-returns-in-err-task c ts e all p =
-    let f = err_from_is_err_and c.from-residual.result c.from-residual.ensures.1 in
+pub returns-in_err-task : goal.returns-in_err-task
+returns-in_err-task c ts e all p =
+    let f = err_from_is_err_and c.from_residual.result c.from_residual.ensures.1 in
     let inside : c.loop-head.head-index < length c.args.tasks.now = omega arith in
-    rw (f.1, f.2) (c.in-err-task.ensures (the_task c.args.bytes.now (cost_of_code c.args.costs.now) ts c.args.tasks.now e all p c.loop-head.head-index inside) (the_place c.args.bytes.now (cost_of_code c.args.costs.now) ts c.args.tasks.now e all p c.loop-head.head-index inside _ refl) (the_read c.args.bytes.now (cost_of_code c.args.costs.now) ts c.args.tasks.now e all p c.loop-head.head-index inside) (the_priced c.args.bytes.now (cost_of_code c.args.costs.now) ts c.args.tasks.now e all p c.loop-head.head-index inside))
+    rw (f.1, f.2) (c.in_err-task.ensures (the_task c.args.bytes.now (cost_of_code c.args.costs.now) ts c.args.tasks.now e all p c.loop-head.head-index inside) (the_place c.args.bytes.now (cost_of_code c.args.costs.now) ts c.args.tasks.now e all p c.loop-head.head-index inside _ refl) (the_read c.args.bytes.now (cost_of_code c.args.costs.now) ts c.args.tasks.now e all p c.loop-head.head-index inside) (the_priced c.args.bytes.now (cost_of_code c.args.costs.now) ts c.args.tasks.now e all p c.loop-head.head-index inside))
 
 pub loop-head-preserved : goal.loop-head-preserved
 loop-head-preserved c ts e all p =
     let inside : c.loop-head.head-index < length c.args.tasks.now = omega arith in
-    let one = c.in-ok-task.ensures (the_task c.args.bytes.now (cost_of_code c.args.costs.now) ts c.args.tasks.now e all p c.loop-head.head-index inside) (the_place c.args.bytes.now (cost_of_code c.args.costs.now) ts c.args.tasks.now e all p c.loop-head.head-index inside _ refl) (the_read c.args.bytes.now (cost_of_code c.args.costs.now) ts c.args.tasks.now e all p c.loop-head.head-index inside) (the_priced c.args.bytes.now (cost_of_code c.args.costs.now) ts c.args.tasks.now e all p c.loop-head.head-index inside) in
-    subst (λ l. Are (cost_of_code c.args.costs.now) l (take (c.loop-head.head-index + 1) ts)) (sym c.in-ok-push.ensures.items) (load-more c.args.bytes.now (cost_of_code c.args.costs.now) ts c.args.tasks.now e all p c.loop-head.head-index inside (vec_items c.loop-head.loaded) c.in-ok-task.task (c.loop-head.invariant ts e all p) one)
+    let one = c.in_ok-task.ensures (the_task c.args.bytes.now (cost_of_code c.args.costs.now) ts c.args.tasks.now e all p c.loop-head.head-index inside) (the_place c.args.bytes.now (cost_of_code c.args.costs.now) ts c.args.tasks.now e all p c.loop-head.head-index inside _ refl) (the_read c.args.bytes.now (cost_of_code c.args.costs.now) ts c.args.tasks.now e all p c.loop-head.head-index inside) (the_priced c.args.bytes.now (cost_of_code c.args.costs.now) ts c.args.tasks.now e all p c.loop-head.head-index inside) in
+    subst (λ l. Are (cost_of_code c.args.costs.now) l (take (c.loop-head.head-index + 1) ts)) (sym c.in_ok-push.ensures.items) (load-more c.args.bytes.now (cost_of_code c.args.costs.now) ts c.args.tasks.now e all p c.loop-head.head-index inside (vec_items c.loop-head.loaded) c.in_ok-task.task (c.loop-head.invariant ts e all p) one)
 
 pub returns : goal.returns
 returns c ts e all p = all_loaded c.args.bytes.now (cost_of_code c.args.costs.now) ts c.args.tasks.now e all p c.loop-head.head-index (vec_items c.loop-head.loaded) (omega arith) (c.loop-head.invariant ts e all p)

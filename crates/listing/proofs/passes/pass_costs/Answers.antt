@@ -12,5 +12,5 @@ pub loop-i-preserved : goal.loop-i-preserved
 loop-i-preserved c = (
   omega (arith, c.loop-i.invariant.0),
   λ rs e all.
-      one-costed c.args.bytes.now (cost_of_code c.args.costs.now) rs c.args.routines.now e all c.loop-i.i (omega arith) c.loop-i.invariant.0 _ refl c.loop-i.next c.routine-cost.result (search rules) c.routine-cost.ensures (c.loop-i.invariant.1 rs e all),
+      one-costed c.args.bytes.now (cost_of_code c.args.costs.now) rs c.args.routines.now e all c.loop-i.i (omega arith) c.loop-i.invariant.0 _ refl c.loop-i.next c.routine_cost.result (search rules) c.routine_cost.ensures (c.loop-i.invariant.1 rs e all),
 )

@@ -1,5 +1,5 @@
 use Rattle.std.proofs.Common.{◌≡◌, ◌≤◌, List, map, length, drop}
-use Rattle.std.specs.List.{AllByRecursion as All}
+use Rattle.std.specs.List.{AllByRecursion}
 use Rattle.reading.specs.Bodies.{BodyRead}
 use Rattle.listing.specs.Costing.{Capped}
 use Rattle.listing.specs.Costing.{cost_by}
@@ -9,7 +9,7 @@ use Rattle.reading.specs.Trees.{Routine}
 use Rattle.listing.proofs.passes.pass_costs.Given as goal
 
 abbrev pub invariant-loop-i : goal.invariant-loop-i
-invariant-loop-i l = (l.i ≤ length l.routines) × ((rs : List Routine) → l.routines ≡ map routine_head rs → All (BodyRead l.bytes) rs → Capped l.next (cost_by (cost_of_code l.costs) (drop l.i rs)))
+invariant-loop-i l = (l.i ≤ length l.routines) × ((rs : List Routine) → l.routines ≡ map routine_head rs → AllByRecursion (BodyRead l.bytes) rs → Capped l.next (cost_by (cost_of_code l.costs) (drop l.i rs)))
 
 abbrev pub decreases-loop-i : goal.decreases-loop-i
 decreases-loop-i l = l.i

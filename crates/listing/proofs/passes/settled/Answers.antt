@@ -5,4 +5,4 @@ pub loop-turn-init : goal.loop-turn-init
 loop-turn-init c rs e all = first-costs rs
 
 pub loop-turn-preserved : goal.loop-turn-preserved
-loop-turn-preserved c rs e all = pass_more c.args.bytes.now rs c.loop-turn.turn c.loop-turn.costs c.pass-costs-costs.result all (c.loop-turn.invariant rs e all) (c.pass-costs-costs.ensures rs e all)
+loop-turn-preserved c rs e all = pass_more c.args.bytes.now rs c.loop-turn.turn c.loop-turn.costs c.pass_costs-costs.result all (c.loop-turn.invariant rs e all) (c.pass_costs-costs.ensures rs e all)

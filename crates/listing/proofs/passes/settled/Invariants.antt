@@ -1,5 +1,5 @@
 use Rattle.std.proofs.Common.{◌≡◌, List, map}
-use Rattle.std.specs.List.{AllByRecursion as All}
+use Rattle.std.specs.List.{AllByRecursion}
 use Rattle.reading.specs.Bodies.{BodyRead}
 use Rattle.listing.specs.Costing.{Capped}
 use Rattle.listing.specs.Costing.{cost_in}
@@ -8,4 +8,4 @@ use Rattle.reading.specs.Trees.{Routine}
 use Rattle.listing.proofs.passes.settled.Given as goal
 
 abbrev pub invariant-loop-turn : goal.invariant-loop-turn
-invariant-loop-turn l = (rs : List Routine) → l.routines ≡ map routine_head rs → All (BodyRead l.bytes) rs → Capped l.costs (cost_in rs l.turn)
+invariant-loop-turn l = (rs : List Routine) → l.routines ≡ map routine_head rs → AllByRecursion (BodyRead l.bytes) rs → Capped l.costs (cost_in rs l.turn)

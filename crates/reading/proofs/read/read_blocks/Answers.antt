@@ -10,60 +10,60 @@ use Rattle.reading.proofs.read.read_blocks.Goals as goal
 pub turns-init : goal.turns-init
 turns-init c = (refl, omega arith, first_block _ _)
 
-pub returns-in-err-at : goal.returns-in-err-at
-returns-in-err-at c =
-    let p = err_from_is_err_and c.from-residual.result c.from-residual.ensures.1 in
-    let n = c.in-err-at.ensures in
+pub returns-in_err-at : goal.returns-in_err-at
+returns-in_err-at c =
+    let p = err_from_is_err_and c.from_residual.result c.from_residual.ensures.1 in
+    let n = c.in_err-at.ensures in
     let bs = c.turns.invariant.0 in
     rw (p.1, p.2) (record { same = n.same ∙ bs; told = sym (block_fault _ _ _ _ c.turns.invariant.2 (sym (n.told ∙ ap (λ b. answer BlockDue b c.turns.reader.at) bs))); forth = tt })
 
-pub returns-in-default : goal.returns-in-default
-returns-in-default c =
-    let n = c.in-ok-at.ensures in
+pub returns-in_default : goal.returns-in_default
+returns-in_default c =
+    let n = c.in_ok-at.ensures in
     let bs = c.turns.invariant.0 in
-    let e = sym (n.told ∙ ap (λ b. answer BlockDue b c.turns.reader.at) bs) ∙ ap Ok c.in-default.is in
+    let e = sym (n.told ∙ ap (λ b. answer BlockDue b c.turns.reader.at) bs) ∙ ap Ok c.in_default.is in
     record { same = n.same ∙ bs; told = ap (λ b. Err (Open (length b))) (n.same ∙ bs) ∙ sym (block_open _ _ _ _ c.turns.invariant.2 e); forth = tt }
 
-pub returns-in-default-command : goal.returns-in-default-command
-returns-in-default-command c =
-    let n = c.in-ok-at.ensures in
+pub returns-in_default-command : goal.returns-in_default-command
+returns-in_default-command c =
+    let n = c.in_ok-at.ensures in
     let bs = c.turns.invariant.0 in
     let e = read-there _ _ c.args.reader.now.bytes.now _ _ _ _ n.told bs c.in-Some.is in
-    record { same = n.same ∙ bs; told = sym (not_a_block _ _ _ _ c.turns.invariant.2 _ _ e c.in-default-command.not-Block); forth = tt }
+    record { same = n.same ∙ bs; told = sym (not_a_block _ _ _ _ c.turns.invariant.2 _ _ e c.in_default-command.not-Block); forth = tt }
 
 pub returns-then-count-ge64 : goal.returns-then-count-ge64
 returns-then-count-ge64 c =
-    let n = c.in-ok-at.ensures in
+    let n = c.in_ok-at.ensures in
     let bs = c.turns.invariant.0 in
     let e = read_as _ _ _ _ _ _ (read-there _ _ c.args.reader.now.bytes.now _ _ _ _ n.told bs c.in-Some.is) c.in-Block.is in
     record { same = n.same ∙ bs; told = sym (block-many _ _ _ _ c.turns.invariant.2 _ _ e c.if-count-ge64.true); forth = tt }
 
-pub returns-in-err-place : goal.returns-in-err-place
-returns-in-err-place c =
-    let p = err_from_is_err_and c.from-residual-in-err-place.result c.from-residual-in-err-place.ensures.1 in
-    let n = c.in-ok-at.ensures in
+pub returns-in_err-place : goal.returns-in_err-place
+returns-in_err-place c =
+    let p = err_from_is_err_and c.from_residual-in_err-place.result c.from_residual-in_err-place.ensures.1 in
+    let n = c.in_ok-at.ensures in
     let bs = c.turns.invariant.0 in
     let e = read_as _ _ _ _ _ _ (read-there _ _ c.args.reader.now.bytes.now _ _ _ _ n.told bs c.in-Some.is) c.in-Block.is in
-    let i = c.in-err-place.ensures in
+    let i = c.in_err-place.ensures in
     let on = n.moved ∙ ap (λ b. after BlockDue b c.turns.reader.at) bs in
     rw (p.1, p.2) (record { same = i.same ∙ n.same ∙ bs; told = sym (follower_fault _ _ _ _ c.turns.invariant.2 _ _ e c.if-count-ge64.false _ on (sym (i.told ∙ ap (λ b. answer AfterBlock b c.next.new.self.at) (n.same ∙ bs)))); forth = tt })
 
-pub returns-in-default-2 : goal.returns-in-default-2
-returns-in-default-2 c =
-    let n = c.in-ok-at.ensures in
+pub returns-in_default-2 : goal.returns-in_default-2
+returns-in_default-2 c =
+    let n = c.in_ok-at.ensures in
     let bs = c.turns.invariant.0 in
     let e = read_as _ _ _ _ _ _ (read-there _ _ c.args.reader.now.bytes.now _ _ _ _ n.told bs c.in-Some.is) c.in-Block.is in
-    let i = c.in-ok-place.ensures in
+    let i = c.in_ok-place.ensures in
     let on = n.moved ∙ ap (λ b. after BlockDue b c.turns.reader.at) bs in
-    let f = sym (i.told ∙ ap (λ b. answer AfterBlock b c.next.new.self.at) (n.same ∙ bs)) ∙ ap Ok c.in-default-2.is in
+    let f = sym (i.told ∙ ap (λ b. answer AfterBlock b c.next.new.self.at) (n.same ∙ bs)) ∙ ap Ok c.in_default-2.is in
     record { same = i.same ∙ n.same ∙ bs; told = ap (λ b. Err (Open (length b))) (i.same ∙ n.same ∙ bs) ∙ sym (follower_open _ _ _ _ c.turns.invariant.2 _ _ e c.if-count-ge64.false _ on f); forth = tt }
 
 pub turns-preserved : goal.turns-preserved
 turns-preserved c =
-    let n = c.in-ok-at.ensures in
+    let n = c.in_ok-at.ensures in
     let bs = c.turns.invariant.0 in
     let e = read_as _ _ _ _ _ _ (read-there _ _ c.args.reader.now.bytes.now _ _ _ _ n.told bs c.in-Some.is) c.in-Block.is in
-    let i = c.in-ok-place.ensures in
+    let i = c.in_ok-place.ensures in
     let on = n.moved ∙ ap (λ b. after BlockDue b c.turns.reader.at) bs in
     let f = read-there _ _ c.args.reader.now.bytes.now _ _ _ _ i.told (n.same ∙ bs) c.in-Some-2.is in
     let long = ap length bs in
@@ -76,10 +76,10 @@ turns-preserved c =
 
 pub returns-in-EndTask : goal.returns-in-EndTask
 returns-in-EndTask c =
-    let n = c.in-ok-at.ensures in
+    let n = c.in_ok-at.ensures in
     let bs = c.turns.invariant.0 in
     let e = read_as _ _ _ _ _ _ (read-there _ _ c.args.reader.now.bytes.now _ _ _ _ n.told bs c.in-Some.is) c.in-Block.is in
-    let i = c.in-ok-place.ensures in
+    let i = c.in_ok-place.ensures in
     let on = n.moved ∙ ap (λ b. after BlockDue b c.turns.reader.at) bs in
     let f = read-there _ _ c.args.reader.now.bytes.now _ _ _ _ i.told (n.same ∙ bs) c.in-Some-2.is in
     let first : (c.turns.reader.at < c.next.new.self.at) × (c.next.new.self.at ≤ length c.turns.reader.bytes.now) = search rules in
@@ -90,12 +90,12 @@ returns-in-EndTask c =
       forth = omega (arith, c.turns.invariant.1);
     }
 
-pub returns-in-default-follower : goal.returns-in-default-follower
-returns-in-default-follower c =
-    let n = c.in-ok-at.ensures in
+pub returns-in_default-follower : goal.returns-in_default-follower
+returns-in_default-follower c =
+    let n = c.in_ok-at.ensures in
     let bs = c.turns.invariant.0 in
     let e = read_as _ _ _ _ _ _ (read-there _ _ c.args.reader.now.bytes.now _ _ _ _ n.told bs c.in-Some.is) c.in-Block.is in
-    let i = c.in-ok-place.ensures in
+    let i = c.in_ok-place.ensures in
     let on = n.moved ∙ ap (λ b. after BlockDue b c.turns.reader.at) bs in
     let f = read-there _ _ c.args.reader.now.bytes.now _ _ _ _ i.told (n.same ∙ bs) c.in-Some-2.is in
-    record { same = i.same ∙ n.same ∙ bs; told = sym (not_a_follower _ _ _ _ c.turns.invariant.2 _ _ e c.if-count-ge64.false _ on _ _ f c.in-default-follower.not-Point c.in-default-follower.not-EndTask); forth = tt }
+    record { same = i.same ∙ n.same ∙ bs; told = sym (not_a_follower _ _ _ _ c.turns.invariant.2 _ _ e c.if-count-ge64.false _ on _ _ f c.in_default-follower.not-Point c.in_default-follower.not-EndTask); forth = tt }

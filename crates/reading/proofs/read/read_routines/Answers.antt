@@ -11,68 +11,68 @@ use Rattle.reading.proofs.read.read_routines.Goals as goal
 pub routines-init : goal.routines-init
 routines-init c = (refl, gathered_as _ _ _ _ _ (sym c.new-heads.ensures) (first_routine _ _))
 
-pub returns-in-err-at : goal.returns-in-err-at
-returns-in-err-at c =
-    let p = err_from_is_err_and c.from-residual.result c.from-residual.ensures.1 in
-    let n = c.in-err-at.ensures in
+pub returns-in_err-at : goal.returns-in_err-at
+returns-in_err-at c =
+    let p = err_from_is_err_and c.from_residual.result c.from_residual.ensures.1 in
+    let n = c.in_err-at.ensures in
     let bs = c.routines.invariant.0 in
     rw (p.1, p.2) (record { same = n.same ∙ bs; told = sym (routine_fault _ _ _ _ c.routines.invariant.1 (sym (n.told ∙ ap (λ b. answer Top b c.routines.reader.at) bs))) })
 
-pub returns-in-default : goal.returns-in-default
-returns-in-default c =
-    let n = c.in-ok-at.ensures in
+pub returns-in_default : goal.returns-in_default
+returns-in_default c =
+    let n = c.in_ok-at.ensures in
     let bs = c.routines.invariant.0 in
-    let e = sym (n.told ∙ ap (λ b. answer Top b c.routines.reader.at) bs) ∙ ap Ok c.in-default.is in
+    let e = sym (n.told ∙ ap (λ b. answer Top b c.routines.reader.at) bs) ∙ ap Ok c.in_default.is in
     let on = n.moved ∙ ap (λ b. after Top b c.routines.reader.at) bs ∙ stays _ _ _ e in
     record { same = n.same ∙ bs; told = ap (λ p. Ok (held c.routines.heads, p)) on ∙ sym (no_more _ _ _ _ c.routines.invariant.1 e) }
 
-pub returns-in-default-command : goal.returns-in-default-command
-returns-in-default-command c =
-    let n = c.in-ok-at.ensures in
+pub returns-in_default-command : goal.returns-in_default-command
+returns-in_default-command c =
+    let n = c.in_ok-at.ensures in
     let bs = c.routines.invariant.0 in
     let e = read-there _ _ c.args.reader.now.bytes.now _ _ _ _ n.told bs c.in-Some.is in
-    record { same = n.same ∙ bs; told = ap (λ p. Ok (held c.routines.heads, p)) (here _ _ _ _ _ e) ∙ sym (past-routines _ _ _ _ c.routines.invariant.1 _ _ e c.in-default-command.not-Routine) }
+    record { same = n.same ∙ bs; told = ap (λ p. Ok (held c.routines.heads, p)) (here _ _ _ _ _ e) ∙ sym (past-routines _ _ _ _ c.routines.invariant.1 _ _ e c.in_default-command.not-Routine) }
 
 pub returns-then-contains : goal.returns-then-contains
 returns-then-contains c =
-    let n = c.in-ok-at.ensures in
+    let n = c.in_ok-at.ensures in
     let bs = c.routines.invariant.0 in
     let e = read_as _ _ _ _ _ _ (read-there _ _ c.args.reader.now.bytes.now _ _ _ _ n.told bs c.in-Some.is) c.in-Routine.is in
     record { same = n.same ∙ bs; told = sym (routine_used _ _ _ _ c.routines.invariant.1 _ _ e (sym c.if-contains.ensures)) }
 
 pub returns-then-len-ge32 : goal.returns-then-len-ge32
 returns-then-len-ge32 c =
-    let n = c.in-ok-at.ensures in
+    let n = c.in_ok-at.ensures in
     let bs = c.routines.invariant.0 in
     let e = read_as _ _ _ _ _ _ (read-there _ _ c.args.reader.now.bytes.now _ _ _ _ n.told bs c.in-Some.is) c.in-Routine.is in
     record { same = n.same ∙ bs; told = sym (routine_many _ _ _ _ c.routines.invariant.1 _ _ e (sym c.if-contains.ensures) (omega (arith, c.len.ensures.is))) }
 
-pub returns-in-err-ran : goal.returns-in-err-ran
-returns-in-err-ran c =
-    let p = err_from_is_err_and c.from-residual-in-err-ran.result c.from-residual-in-err-ran.ensures.1 in
-    let n = c.in-ok-at.ensures in
+pub returns-in_err-ran : goal.returns-in_err-ran
+returns-in_err-ran c =
+    let p = err_from_is_err_and c.from_residual-in_err-ran.result c.from_residual-in_err-ran.ensures.1 in
+    let n = c.in_ok-at.ensures in
     let bs = c.routines.invariant.0 in
     let e = read_as _ _ _ _ _ _ (read-there _ _ c.args.reader.now.bytes.now _ _ _ _ n.told bs c.in-Some.is) c.in-Routine.is in
-    let i = c.in-err-ran.ensures in
+    let i = c.in_err-ran.ensures in
     let on = n.moved ∙ ap (λ b. after Top b c.routines.reader.at) bs in
     rw (p.1, p.2)
     (record { same = i.same ∙ n.same ∙ bs; told = sym (body_fault _ _ _ _ c.routines.invariant.1 _ _ e (sym c.if-contains.ensures) (omega (arith, c.len.ensures.is)) _ _ _ (told-there _ _ _ _ _ _ _ _ _ (n.same ∙ bs) on i.told)) })
 
-pub returns-in-default-last : goal.returns-in-default-last
-returns-in-default-last c =
-    let n = c.in-ok-at.ensures in
+pub returns-in_default-last : goal.returns-in_default-last
+returns-in_default-last c =
+    let n = c.in_ok-at.ensures in
     let bs = c.routines.invariant.0 in
     let e = read_as _ _ _ _ _ _ (read-there _ _ c.args.reader.now.bytes.now _ _ _ _ n.told bs c.in-Some.is) c.in-Routine.is in
-    let i = c.in-ok-ran.ensures in
+    let i = c.in_ok-ran.ensures in
     let on = n.moved ∙ ap (λ b. after Top b c.routines.reader.at) bs in
-    record { same = i.same ∙ n.same ∙ bs; told = sym (body_open _ _ _ _ c.routines.invariant.1 _ _ e (sym c.if-contains.ensures) (omega (arith, c.len.ensures.is)) _ _ _ (told-there _ _ _ _ _ _ _ _ _ (n.same ∙ bs) on i.told) c.in-default-last.not-EndRoutine) }
+    record { same = i.same ∙ n.same ∙ bs; told = sym (body_open _ _ _ _ c.routines.invariant.1 _ _ e (sym c.if-contains.ensures) (omega (arith, c.len.ensures.is)) _ _ _ (told-there _ _ _ _ _ _ _ _ _ (n.same ∙ bs) on i.told) c.in_default-last.not-EndRoutine) }
 
 pub routines-preserved : goal.routines-preserved
 routines-preserved c =
-    let n = c.in-ok-at.ensures in
+    let n = c.in_ok-at.ensures in
     let bs = c.routines.invariant.0 in
     let e = read_as _ _ _ _ _ _ (read-there _ _ c.args.reader.now.bytes.now _ _ _ _ n.told bs c.in-Some.is) c.in-Routine.is in
-    let i = c.in-ok-ran.ensures in
+    let i = c.in_ok-ran.ensures in
     let on = n.moved ∙ ap (λ b. after Top b c.routines.reader.at) bs in
     let long = ap length bs in
     let forth : (c.routines.reader.at < c.next.new.self.at) × (c.next.new.self.at ≤ length c.routines.reader.bytes.now) = search rules in (

@@ -10,59 +10,59 @@ use Rattle.reading.proofs.read.read_tasks.Goals as goal
 pub tasks-init : goal.tasks-init
 tasks-init c = (refl, tasking_as _ _ _ _ _ (sym c.new-heads.ensures) (first_task _ _))
 
-pub returns-in-err-at : goal.returns-in-err-at
-returns-in-err-at c =
-    let p = err_from_is_err_and c.from-residual.result c.from-residual.ensures.1 in
-    let n = c.in-err-at.ensures in
+pub returns-in_err-at : goal.returns-in_err-at
+returns-in_err-at c =
+    let p = err_from_is_err_and c.from_residual.result c.from_residual.ensures.1 in
+    let n = c.in_err-at.ensures in
     let bs = c.tasks.invariant.0 in
     rw (p.1, p.2) (record { same = n.same ∙ bs; told = sym (task_fault _ _ _ _ c.tasks.invariant.1 (sym (n.told ∙ ap (λ b. answer Tasks b c.tasks.reader.at) bs))) })
 
-pub returns-in-default : goal.returns-in-default
-returns-in-default c =
-    let n = c.in-ok-at.ensures in
+pub returns-in_default : goal.returns-in_default
+returns-in_default c =
+    let n = c.in_ok-at.ensures in
     let bs = c.tasks.invariant.0 in
-    let e = sym (n.told ∙ ap (λ b. answer Tasks b c.tasks.reader.at) bs) ∙ ap Ok c.in-default.is in
+    let e = sym (n.told ∙ ap (λ b. answer Tasks b c.tasks.reader.at) bs) ∙ ap Ok c.in_default.is in
     let on = n.moved ∙ ap (λ b. after Tasks b c.tasks.reader.at) bs ∙ stays _ _ _ e in
     record { same = n.same ∙ bs; told = ap (λ p. Ok (held c.tasks.heads, p)) on ∙ sym (no_more_tasks _ _ _ _ c.tasks.invariant.1 e) }
 
-pub returns-in-default-command : goal.returns-in-default-command
-returns-in-default-command c =
-    let n = c.in-ok-at.ensures in
+pub returns-in_default-command : goal.returns-in_default-command
+returns-in_default-command c =
+    let n = c.in_ok-at.ensures in
     let bs = c.tasks.invariant.0 in
     let e = read-there _ _ c.args.reader.now.bytes.now _ _ _ _ n.told bs c.in-Some.is in
-    record { same = n.same ∙ bs; told = sym (not_a_task _ _ _ _ c.tasks.invariant.1 _ _ e c.in-default-command.not-Task) }
+    record { same = n.same ∙ bs; told = sym (not_a_task _ _ _ _ c.tasks.invariant.1 _ _ e c.in_default-command.not-Task) }
 
 pub returns-then-contains : goal.returns-then-contains
 returns-then-contains c =
-    let n = c.in-ok-at.ensures in
+    let n = c.in_ok-at.ensures in
     let bs = c.tasks.invariant.0 in
     let e = read_as _ _ _ _ _ _ (read-there _ _ c.args.reader.now.bytes.now _ _ _ _ n.told bs c.in-Some.is) c.in-Task.is in
     record { same = n.same ∙ bs; told = sym (task_used _ _ _ _ c.tasks.invariant.1 _ _ _ _ e (sym c.if-contains.ensures)) }
 
 pub returns-then-len-ge32 : goal.returns-then-len-ge32
 returns-then-len-ge32 c =
-    let n = c.in-ok-at.ensures in
+    let n = c.in_ok-at.ensures in
     let bs = c.tasks.invariant.0 in
     let e = read_as _ _ _ _ _ _ (read-there _ _ c.args.reader.now.bytes.now _ _ _ _ n.told bs c.in-Some.is) c.in-Task.is in
     record { same = n.same ∙ bs; told = sym (task_many _ _ _ _ c.tasks.invariant.1 _ _ _ _ e (sym c.if-contains.ensures) (omega (arith, c.len.ensures.is))) }
 
-pub returns-in-err-read-blocks : goal.returns-in-err-read-blocks
-returns-in-err-read-blocks c =
-    let p = err_from_is_err_and c.from-residual-in-err-read-blocks.result c.from-residual-in-err-read-blocks.ensures.1 in
-    let n = c.in-ok-at.ensures in
+pub returns-in_err-read_blocks : goal.returns-in_err-read_blocks
+returns-in_err-read_blocks c =
+    let p = err_from_is_err_and c.from_residual-in_err-read_blocks.result c.from_residual-in_err-read_blocks.ensures.1 in
+    let n = c.in_ok-at.ensures in
     let bs = c.tasks.invariant.0 in
     let e = read_as _ _ _ _ _ _ (read-there _ _ c.args.reader.now.bytes.now _ _ _ _ n.told bs c.in-Some.is) c.in-Task.is in
-    let i = c.in-err-read-blocks.ensures in
+    let i = c.in_err-read_blocks.ensures in
     let on = n.moved ∙ ap (λ b. after Tasks b c.tasks.reader.at) bs in
     rw (p.1, p.2)
     (record { same = i.same ∙ n.same ∙ bs; told = sym (task_blocks_fault _ _ _ _ c.tasks.invariant.1 _ _ _ _ e (sym c.if-contains.ensures) (omega (arith, c.len.ensures.is)) _ (blocks-there _ _ _ _ _ (n.same ∙ bs) on i.told)) })
 
 pub tasks-preserved : goal.tasks-preserved
 tasks-preserved c =
-    let n = c.in-ok-at.ensures in
+    let n = c.in_ok-at.ensures in
     let bs = c.tasks.invariant.0 in
     let e = read_as _ _ _ _ _ _ (read-there _ _ c.args.reader.now.bytes.now _ _ _ _ n.told bs c.in-Some.is) c.in-Task.is in
-    let i = c.in-ok-read-blocks.ensures in
+    let i = c.in_ok-read_blocks.ensures in
     let on = n.moved ∙ ap (λ b. after Tasks b c.tasks.reader.at) bs in
     let long = ap length bs in
     let forth : (c.tasks.reader.at < c.next.new.self.at) × (c.next.new.self.at ≤ length c.tasks.reader.bytes.now) = search rules in (

@@ -1,4 +1,4 @@
-use Rattle.std.proofs.Common.{◌≡◌, ◌-◌, ◌<◌, ◌≤◌, length, Some, Ok, Err, sym, refl, ap, ◌∙◌, arith, rules}
+use Rattle.std.proofs.Common.{◌≡◌, ◌<◌, ◌≤◌, length, Some, Ok, Err, sym, refl, ap, ◌∙◌, arith, rules}
 use Rattle.std.proofs.lemmas.Result.{err_from_is_err_and}
 use Rattle.commands.specs.declared.table.Context.TheVariants.{Body}
 use Rattle.faults.specs.declared.fault.ReadFault.TheVariants.{Open}
@@ -6,61 +6,61 @@ use Rattle.commands.specs.Commands.{answer, after}
 use Rattle.reading.proofs.Turns.{run_err, item_err, told-there, item-there, item_by, start, at_open, at_fault, at-end, at_item_fault, at_item, too_deep, first_arm, arm_fault, arm_last, arm_none, arm_next, turns-last}
 use Rattle.reading.proofs.walk.+cost_item_cost_run.Goals as goal
 
-pub cost-run-returns-then-depth-eq0 : goal.cost-run-returns-then-depth-eq0
-cost-run-returns-then-depth-eq0 t c = record { same = refl; told = too_deep _ _ _ _ _ _ c.if-depth-eq0.true; within = tt }
+pub cost_run-returns-then-depth-eq0 : goal.cost_run-returns-then-depth-eq0
+cost_run-returns-then-depth-eq0 t c = record { same = refl; told = too_deep _ _ _ _ _ _ c.if-depth-eq0.true; within = tt }
 
-pub cost-run-items-init : goal.cost-run-items-init
-cost-run-items-init t c = (refl, omega arith, omega arith, start _ _ _ _ _ (omega arith))
+pub cost_run-items-init : goal.cost_run-items-init
+cost_run-items-init t c = (refl, omega arith, omega arith, start _ _ _ _ _ (omega arith))
 
-pub cost-run-returns-in-err-at : goal.cost-run-returns-in-err-at
-cost-run-returns-in-err-at t c =
-    let p = err_from_is_err_and c.from-residual.result c.from-residual.ensures.1 in
-    let n = c.in-err-at.ensures in
+pub cost_run-returns-in_err-at : goal.cost_run-returns-in_err-at
+cost_run-returns-in_err-at t c =
+    let p = err_from_is_err_and c.from_residual.result c.from_residual.ensures.1 in
+    let n = c.in_err-at.ensures in
     let bs = c.items.invariant.0 in
     rw (p.1, p.2)
     (record { same = n.same ∙ bs; told = run_err _ _ _ _ (at_fault _ _ _ _ _ _ c.items.invariant.3 (sym (n.told ∙ ap (λ b. answer Body b c.items.reader.at) bs))); within = tt })
 
-pub cost-run-returns-in-default : goal.cost-run-returns-in-default
-cost-run-returns-in-default t c =
-    let n = c.in-ok-at.ensures in
+pub cost_run-returns-in_default : goal.cost_run-returns-in_default
+cost_run-returns-in_default t c =
+    let n = c.in_ok-at.ensures in
     let bs = c.items.invariant.0 in
     record {
       same = n.same ∙ bs;
-      told = run_err _ _ _ _ (at_open _ _ _ _ _ _ c.items.invariant.3 (sym (n.told ∙ ap (λ b. answer Body b c.items.reader.at) bs) ∙ ap Ok c.in-default.is) ∙ ap (λ b. Err (Open (length b))) (sym (n.same ∙ bs)));
+      told = run_err _ _ _ _ (at_open _ _ _ _ _ _ c.items.invariant.3 (sym (n.told ∙ ap (λ b. answer Body b c.items.reader.at) bs) ∙ ap Ok c.in_default.is) ∙ ap (λ b. Err (Open (length b))) (sym (n.same ∙ bs)));
       within = tt;
     }
 
-pub cost-run-returns-then-ends-run : goal.cost-run-returns-then-ends-run
-cost-run-returns-then-ends-run t c =
-    let n = c.in-ok-at.ensures in
+pub cost_run-returns-then-ends_run : goal.cost_run-returns-then-ends_run
+cost_run-returns-then-ends_run t c =
+    let n = c.in_ok-at.ensures in
     let bs = c.items.invariant.0 in
     let e : answer Body c.args.reader.now.bytes.now c.items.reader.at ≡ Ok (Some (c.in-Some.at, c.in-Some.command)) = sym (n.told ∙ ap (λ b. answer Body b c.items.reader.at) bs) ∙ ap Ok c.in-Some.is in
     let long = ap length bs in
     record {
       same = n.same ∙ bs;
-      told = at-end _ _ _ _ _ _ c.items.invariant.3 _ _ e (sym c.if-ends-run.ensures) _ (n.moved ∙ ap (λ b. after Body b c.items.reader.at) bs);
+      told = at-end _ _ _ _ _ _ c.items.invariant.3 _ _ e (sym c.if-ends_run.ensures) _ (n.moved ∙ ap (λ b. after Body b c.items.reader.at) bs);
       within = search (rules, long);
     }
 
-pub cost-run-returns-in-err-cost : goal.cost-run-returns-in-err-cost
-cost-run-returns-in-err-cost t c =
-    let p = err_from_is_err_and c.from-residual-in-err-cost.result c.from-residual-in-err-cost.ensures.1 in
-    let n = c.in-ok-at.ensures in
-    let i = c.in-err-cost.ensures in
+pub cost_run-returns-in_err-cost : goal.cost_run-returns-in_err-cost
+cost_run-returns-in_err-cost t c =
+    let p = err_from_is_err_and c.from_residual-in_err-cost.result c.from_residual-in_err-cost.ensures.1 in
+    let n = c.in_ok-at.ensures in
+    let i = c.in_err-cost.ensures in
     let bs = c.items.invariant.0 in
     let e : answer Body c.args.reader.now.bytes.now c.items.reader.at ≡ Ok (Some (c.in-Some.at, c.in-Some.command)) = sym (n.told ∙ ap (λ b. answer Body b c.items.reader.at) bs) ∙ ap Ok c.in-Some.is in
     let on = n.moved ∙ ap (λ b. after Body b c.items.reader.at) bs in
     rw (p.1, p.2)
     (record {
       same = i.same ∙ n.same ∙ bs;
-      told = run_err _ _ _ _ (at_item_fault _ _ _ _ _ _ c.items.invariant.3 _ _ e (sym c.if-ends-run.ensures) _ _ (item-there _ _ _ _ _ _ _ _ _ _ (n.same ∙ bs) on i.told));
+      told = run_err _ _ _ _ (at_item_fault _ _ _ _ _ _ c.items.invariant.3 _ _ e (sym c.if-ends_run.ensures) _ _ (item-there _ _ _ _ _ _ _ _ _ _ (n.same ∙ bs) on i.told));
       within = tt;
     })
 
-pub cost-run-items-preserved : goal.cost-run-items-preserved
-cost-run-items-preserved t c =
-    let n = c.in-ok-at.ensures in
-    let i = c.in-ok-cost.ensures in
+pub cost_run-items-preserved : goal.cost_run-items-preserved
+cost_run-items-preserved t c =
+    let n = c.in_ok-at.ensures in
+    let i = c.in_ok-cost.ensures in
     let bs = c.items.invariant.0 in
     let e : answer Body c.args.reader.now.bytes.now c.items.reader.at ≡ Ok (Some (c.in-Some.at, c.in-Some.command)) = sym (n.told ∙ ap (λ b. answer Body b c.items.reader.at) bs) ∙ ap Ok c.in-Some.is in
     let on = n.moved ∙ ap (λ b. after Body b c.items.reader.at) bs in
@@ -70,16 +70,16 @@ cost-run-items-preserved t c =
       omega (arith, i.within, c.items.invariant.1),
       omega (arith, c.added-total.ensures),
       rw c.added-total.ensures
-          (at_item _ _ _ _ _ _ c.items.invariant.3 _ _ e (sym c.if-ends-run.ensures) _ _ (item-there _ _ _ _ _ _ _ _ _ _ (n.same ∙ bs) on i.told) (omega (arith, i.within)) (omega arith)),
+          (at_item _ _ _ _ _ _ c.items.invariant.3 _ _ e (sym c.if-ends_run.ensures) _ _ (item-there _ _ _ _ _ _ _ _ _ _ (n.same ∙ bs) on i.told) (omega (arith, i.within)) (omega arith)),
     )
 
-pub cost-item-arms-init : goal.cost-item-arms-init
-cost-item-arms-init t c = (refl, omega arith, omega arith, first_arm _ _ _ _ _)
+pub cost_item-arms-init : goal.cost_item-arms-init
+cost_item-arms-init t c = (refl, omega arith, omega arith, first_arm _ _ _ _ _)
 
-pub cost-item-returns-in-err-ran-2 : goal.cost-item-returns-in-err-ran-2
-cost-item-returns-in-err-ran-2 t c =
-    let p = err_from_is_err_and c.from-residual-in-err-ran-2.result c.from-residual-in-err-ran-2.ensures.1 in
-    let n = c.in-err-ran-2.ensures in
+pub cost_item-returns-in_err-ran-in-Either : goal.cost_item-returns-in_err-ran-in-Either
+cost_item-returns-in_err-ran-in-Either t c =
+    let p = err_from_is_err_and c.from_residual-in_err-ran-in-Either.result c.from_residual-in_err-ran-in-Either.ensures.1 in
+    let n = c.in_err-ran-in-Either.ensures in
     let bs = c.arms.invariant.0 in
     rw (p.1, p.2)
     (record {
@@ -88,9 +88,9 @@ cost-item-returns-in-err-ran-2 t c =
       within = tt;
     })
 
-pub cost-item-arms-preserved : goal.cost-item-arms-preserved
-cost-item-arms-preserved t c =
-    let n = c.in-ok-ran-2.ensures in
+pub cost_item-arms-preserved : goal.cost_item-arms-preserved
+cost_item-arms-preserved t c =
+    let n = c.in_ok-ran-in-Either.ensures in
     let bs = c.arms.invariant.0 in
     let long = ap length bs in (
       n.same ∙ bs,
@@ -99,9 +99,9 @@ cost-item-arms-preserved t c =
       rw c.dearer-best.ensures (arm_next _ _ _ _ _ _ _ c.arms.invariant.3 _ _ (told-there _ _ _ _ _ _ _ _ _ bs refl n.told) c.in-Or.is n.within.1 (omega (arith, n.within))),
     )
 
-pub cost-item-returns-in-EndEither : goal.cost-item-returns-in-EndEither
-cost-item-returns-in-EndEither t c =
-    let n = c.in-ok-ran-2.ensures in
+pub cost_item-returns-in-EndEither : goal.cost_item-returns-in-EndEither
+cost_item-returns-in-EndEither t c =
+    let n = c.in_ok-ran-in-Either.ensures in
     let bs = c.arms.invariant.0 in
     record {
       same = n.same ∙ bs;
@@ -109,19 +109,19 @@ cost-item-returns-in-EndEither t c =
       within = omega (arith, n.within, c.dearer-best.ensures, c.arms.invariant.1, c.arms.invariant.2);
     }
 
-pub cost-item-returns-in-default-last-2 : goal.cost-item-returns-in-default-last-2
-cost-item-returns-in-default-last-2 t c =
-    let n = c.in-ok-ran-2.ensures in
+pub cost_item-returns-in_default-last-2 : goal.cost_item-returns-in_default-last-2
+cost_item-returns-in_default-last-2 t c =
+    let n = c.in_ok-ran-in-Either.ensures in
     let bs = c.arms.invariant.0 in
     record {
       same = n.same ∙ bs;
-      told = item_by _ _ _ _ _ _ _ _ _ c.in-Either.is (item_err _ _ _ _ (arm_none _ _ _ _ _ _ _ c.arms.invariant.3 _ _ (told-there _ _ _ _ _ _ _ _ _ bs refl n.told) c.in-default-last-2.not-Or c.in-default-last-2.not-EndEither));
+      told = item_by _ _ _ _ _ _ _ _ _ c.in-Either.is (item_err _ _ _ _ (arm_none _ _ _ _ _ _ _ c.arms.invariant.3 _ _ (told-there _ _ _ _ _ _ _ _ _ bs refl n.told) c.in_default-last-2.not-Or c.in_default-last-2.not-EndEither));
       within = tt;
     }
 
-pub cost-item-returns-in-EndRepeat : goal.cost-item-returns-in-EndRepeat
-cost-item-returns-in-EndRepeat t c =
-    let n = c.in-ok-ran.ensures in
+pub cost_item-returns-in-EndRepeat : goal.cost_item-returns-in-EndRepeat
+cost_item-returns-in-EndRepeat t c =
+    let n = c.in_ok-ran-in-Repeat.ensures in
     record {
       same = n.same;
       told = turns-last _ _ _ _ _ _ _ c.in-Repeat.is _ _ n.told _ c.in-EndRepeat.is c.capped-in-EndRepeat.ensures;

@@ -7,5 +7,5 @@ pub returns-in-Or : goal.returns-in-Or
 returns-in-Or c =
     ⊎_elim (λ e. sym (ap ends e)) (⊎_elim (λ e. sym (ap ends e)) (⊎_elim (λ e. sym (ap ends e)) (λ e. sym (ap ends e)))) c.in-Or.is
 
-pub returns-in-default : goal.returns-in-default
-returns-in-default c = no_end c.args.command c.in-default.not-Or c.in-default.not-EndEither c.in-default.not-EndRepeat c.in-default.not-EndRoutine
+pub returns-in_default : goal.returns-in_default
+returns-in_default c = no_end c.args.command c.in_default.not-Or c.in_default.not-EndEither c.in_default.not-EndRepeat c.in_default.not-EndRoutine

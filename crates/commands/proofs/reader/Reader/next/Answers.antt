@@ -10,10 +10,10 @@ returns-then-at-self c =
     let e = at-end c.args.context _ _ c.if-at-self.true in
     record { same = refl; moved = sym (ap (moved _) e); told = sym (ap (answered _) e); forth = search rules }
 
-pub returns-in-default : goal.returns-in-default
+pub returns-in_default : goal.returns-in_default
 unfolding answer after
-returns-in-default c =
-    let e = at-unknown _ _ _ c.if-at-self.false (sym c.in-default.ensures) in
+returns-in_default c =
+    let e = at-unknown _ _ _ c.if-at-self.false (sym c.in_default.ensures) in
     record { same = refl; moved = sym (ap (moved _) e); told = sym (ap (answered _) e); forth = search rules }
 
 pub width-width-requires : goal.width-width-requires

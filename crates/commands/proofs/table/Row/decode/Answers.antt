@@ -3,9 +3,9 @@ use Rattle.std.proofs.lemmas.Bool.{cond-true, cond-false}
 use Rattle.commands.specs.Commands.{row_in, allowed}
 use Rattle.commands.proofs.table.Row.decode.Goals as goal
 
-pub returns-in-default : goal.returns-in-default
+pub returns-in_default : goal.returns-in_default
 unfolding row_in
-returns-in-default c = ap (allowed c.args.context) c.in-default.ensures
+returns-in_default c = ap (allowed c.args.context) c.in_default.ensures
 
 pub returns-then-allows : goal.returns-then-allows
 unfolding row_in

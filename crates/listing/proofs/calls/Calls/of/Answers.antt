@@ -9,12 +9,12 @@ pub commands-init : goal.commands-init
 commands-init c =
     (c.next.ensures.same, noting _ _ _ _ _ c.next.ensures.moved refl refl)
 
-pub returns-in-default : goal.returns-in-default
-returns-in-default c = noted_fault _ _ _ _ _ c.commands.invariant.1 _ (sym (c.in-default.ensures.told ∙ ap (λ b. answer Body b c.commands.reader.at) c.commands.invariant.0))
+pub returns-in_default : goal.returns-in_default
+returns-in_default c = noted_fault _ _ _ _ _ c.commands.invariant.1 _ (sym (c.in_default.ensures.told ∙ ap (λ b. answer Body b c.commands.reader.at) c.commands.invariant.0))
 
-pub returns-in-default-read : goal.returns-in-default-read
-returns-in-default-read c =
-    noted_none _ _ _ _ _ c.commands.invariant.1 (sym (c.in-Ok.ensures.told ∙ ap (λ b. answer Body b c.commands.reader.at) c.commands.invariant.0) ∙ ap Ok c.in-default-read.is)
+pub returns-in_default-read : goal.returns-in_default-read
+returns-in_default-read c =
+    noted_none _ _ _ _ _ c.commands.invariant.1 (sym (c.in-Ok.ensures.told ∙ ap (λ b. answer Body b c.commands.reader.at) c.commands.invariant.0) ∙ ap Ok c.in_default-read.is)
 
 pub commands-preserved-in-Call : goal.commands-preserved-in-Call
 commands-preserved-in-Call c =
@@ -42,4 +42,4 @@ commands-preserved c =
     let on = n.moved ∙ ap (λ b. after Body b c.commands.reader.at) bs in
     let long = ap length bs in
     let forth : (c.commands.reader.at < c.next-in-commands.new.self.at) × (c.next-in-commands.new.self.at ≤ length c.commands.reader.bytes.now) = search rules in
-    (n.same ∙ bs, note_other _ _ _ _ _ c.commands.invariant.1 _ _ e _ on (omega arith) (omega arith) c.in-default-command.not-Call c.in-default-command.not-EndRoutine)
+    (n.same ∙ bs, note_other _ _ _ _ _ c.commands.invariant.1 _ _ e _ on (omega arith) (omega arith) c.in_default-command.not-Call c.in_default-command.not-EndRoutine)
