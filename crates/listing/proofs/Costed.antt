@@ -1,5 +1,5 @@
 -- What each step of costing tells of the whole answer. Assumes nothing.
-use Rattle.std.proofs.Common.{◌≡◌, ℕ, ◌≤◌, Bool, List, ◌++◌, map, length, Some, None, Ok, Err, Option, Result, sym, refl, ap, ◌∙◌, subst, arith}
+use Rattle.std.proofs.Common.{◌≡◌, ℕ, ◌≤◌, Bool, not, List, ◌++◌, map, length, Some, None, Ok, Err, Option, Result, sym, refl, ap, ◌∙◌, subst, arith, length-take}
 use Rattle.std.proofs.lemmas.List.{length-map}
 use Rattle.std.specs.List.{AllByRecursion, range_with_len}
 use Rattle.faults.specs.declared.fault.ReadFault.{ReadFault}
@@ -7,22 +7,21 @@ use Rattle.faults.specs.declared.fault.CostFault.{CostFault}
 use Rattle.faults.specs.declared.fault.CostFault.TheVariants.{Read, Unknown, Cycle, TooDear}
 use Rattle.reading.specs.declared.heads.Head.{Head}
 use Rattle.reading.specs.declared.outline.Outline.{Outline}
-use Rattle.reading.specs.Heads.{held}
+use Rattle.reading.specs.Heads.{held, used}
 use Rattle.reading.specs.Trees.{Routine, Task, Listing}
 use Rattle.reading.specs.Runs.{cost_of_code}
 use Rattle.reading.specs.Listings.{listing, outline_of, routine_head, task_head}
-use Rattle.std.specs.Option.{option_or}
-use Rattle.listing.specs.Cycles.{entry, closed, code_at, Tabled}
+use Rattle.listing.specs.Calls.{or_else}
+use Rattle.listing.specs.Cycles.{entry, closed, code_at, Tabled, RowSays}
+use Rattle.listing.specs.Marks.{marked_in}
 use Rattle.reading.specs.Bodies.{BodyRead, TaskRead}
 use Rattle.listing.specs.Costing.{Capped}
-use Rattle.listing.specs.Costing.{call_lists, block_lists, unknown_in, table_of, reach_table, cycle_from, dear_from, cost_in, calls_in, in_order, judged_after, costing}
+use Rattle.listing.specs.Costing.{call_lists, block_lists, unknown_in, table_of, reach_table, cycle_from, dear_from, cost_in, calls_in, unless, judged, judged_after, costing}
 use Rattle.listing.specs.declared.cost.Costs.{Costs}
 use Rattle.listing.specs.Costed.{cost_told, costs_of}
-use Rattle.listing.specs.Places.{PlaceTold}
 use Rattle.listing.specs.Reach.{CycleTold}
-use Rattle.listing.proofs.Placed.{places_told}
 use Rattle.listing.proofs.Reached.{cycles_told}
-use Rattle.listing.proofs.Judged.{listing-parts, calls_same, unknown-append, cycle_same, dear_same, costs_are}
+use Rattle.listing.proofs.Judged.{listing-parts, calls_same, unknown-append, block-unknown, blocks-known, cycle_same, dear_same, costs_are}
 
 fault_by : (f : ReadFault) (r : Result Listing ReadFault) → Err f ≡ outline_of r → Err (Read f) ≡ costs_of (judged_after r)
 fault_by f (Ok l) e = let z : ◌≡◌ {A = ℕ} 0 1 = cc in absurd (omega arith)
@@ -32,46 +31,27 @@ pub read_fault : (bs : List ℕ) (f : ReadFault) → Err f ≡ outline_of (listi
 unfolding costing
 read_fault bs f e = fault_by f (listing bs) e
 
--- the promises of costing
-abbrev pub Promised : List ℕ → Result Costs CostFault → Type 0
-Promised bs r = (cost_told r ≡ costs_of (costing bs)) × CycleTold bs r × PlaceTold bs r
+-- the two promises of costing
+abbrev CostBoth : List ℕ → Result Costs CostFault → Type 0
+CostBoth bs r = (cost_told r ≡ costs_of (costing bs)) × CycleTold bs r
 
--- what costing answers after a judgement keeps them
-abbrev pub JudgedTold : List ℕ → Outline → List ℕ → Result (Unit {0}) CostFault → Type 0
-JudgedTold bs o costs (Ok u) = Promised bs (Ok (record { outline = o; by_code = costs }))
-JudgedTold bs o costs (Err f) = Promised bs (Err f)
-
--- the listing of an outline, whose heads are given
-pub record Outlined (bs : List ℕ) (hs ks : List Head) : Type 0 where
+-- the listing of an outline
+pub record Outlined (bs : List ℕ) (o : Outline) : Type 0 where
   pub it : Listing
   pub is : listing bs ≡ Ok it
-  pub routines_are : hs ≡ map routine_head it.routines
-  pub tasks_are : ks ≡ map task_head it.tasks
+  pub routines_are : held o.routines ≡ map routine_head it.routines
+  pub tasks_are : held o.tasks ≡ map task_head it.tasks
 
-outlined-by : (bs : List ℕ) (hs ks : List Head) (r : Result Listing ReadFault) → listing bs ≡ r → Ok (hs, ks) ≡ outline_of r → Outlined bs hs ks
-outlined-by bs hs ks (Ok l) a e =
-    let both : (hs, ks) ≡ (map routine_head l.routines, map task_head l.tasks) = cc in
+outlined-by : (bs : List ℕ) (o : Outline) (r : Result Listing ReadFault) → listing bs ≡ r → Ok (held o.routines, held o.tasks) ≡ outline_of r → Outlined bs o
+outlined-by bs o (Ok l) a e =
+    let both : (held o.routines, held o.tasks) ≡ (map routine_head l.routines, map task_head l.tasks) = cc in
     record { it = l; is = a; routines_are = ap (λ (x : List Head × List Head). x.0) both; tasks_are = ap (λ (x : List Head × List Head). x.1) both }
-outlined-by bs hs ks (Err f) a e = let z : ◌≡◌ {A = ℕ} 0 1 = cc in absurd (omega arith)
+outlined-by bs o (Err f) a e = let z : ◌≡◌ {A = ℕ} 0 1 = cc in absurd (omega arith)
 
-pub outlined : (bs : List ℕ) (o : Outline) (hs ks : List Head) → hs ≡ held o.routines → ks ≡ held o.tasks → Ok (held o.routines, held o.tasks) ≡ outline_of (listing bs) → Outlined bs hs ks
-outlined bs o hs ks h k e = outlined-by bs hs ks (listing bs) refl ((λ i. Ok (h i, k i)) ∙ e)
+pub outlined : (bs : List ℕ) (o : Outline) → Ok (held o.routines, held o.tasks) ≡ outline_of (listing bs) → Outlined bs o
+outlined bs o e = outlined-by bs o (listing bs) refl e
 
--- the order of faults does not hang on what comes after them
-module _ {X Y : Type 0} (x : X) (y : Y) where
-  same_fault : (u c d : Option Head) (f : CostFault) → Err f ≡ in_order u c d (Ok x) → Err f ≡ in_order u c d (Ok y)
-  same_fault (Some h) c d f e = let same : f ≡ Unknown h.at h.code = cc in ap Err same
-  same_fault None (Some h) d f e = let same : f ≡ Cycle h.at h.code = cc in ap Err same
-  same_fault None None (Some h) f e = let same : f ≡ TooDear h.at h.code = cc in ap Err same
-  same_fault None None None f e = let z : ◌≡◌ {A = ℕ} 0 1 = cc in absurd (omega arith)
-
-  no_fault : (u c d : Option Head) → Ok x ≡ in_order u c d (Ok x) → (d ≡ None) × (in_order u c d (Ok y) ≡ Ok y)
-  no_fault (Some h) c d e = let z : ◌≡◌ {A = ℕ} 0 1 = cc in absurd (omega arith)
-  no_fault None (Some h) d e = let z : ◌≡◌ {A = ℕ} 0 1 = cc in absurd (omega arith)
-  no_fault None None (Some h) e = let z : ◌≡◌ {A = ℕ} 0 1 = cc in absurd (omega arith)
-  no_fault None None None e = (refl, refl)
-
-module _ (bs : List ℕ) (hs ks : List Head) (x : Outlined bs hs ks) (short : length hs ≤ 32) where
+module _ (bs : List ℕ) (o : Outline) (x : Outlined bs o) where
   rs : List Routine
   rs = x.it.routines
 
@@ -82,50 +62,88 @@ module _ (bs : List ℕ) (hs ks : List Head) (x : Outlined bs hs ks) (short : le
   unfolding rs
   known = map routine_head rs
 
-  few : length x.it.routines ≤ 32
-  few = omega (arith, ap length x.routines_are ∙ length-map x.it.routines routine_head)
+  parts : AllByRecursion (BodyRead bs) rs × AllByRecursion (TaskRead bs) ts
+  unfolding rs ts
+  parts = listing-parts bs x.it x.is
 
-  promised : (r : Result Costs CostFault) → cost_told r ≡ costs_of (costing bs) → Promised bs r
-  promised r e = (e, cycles_told bs x.it x.is few r e, places_told bs x.it x.is r e)
+  pub few : length x.it.routines ≤ 32
+  few =
+      let l = ap length x.routines_are ∙ length-map x.it.routines routine_head in
+      omega (arith, l, length-take o.routines.count o.routines.heads, o.routines.few)
 
-  calls_are : calls_in bs hs ≡ call_lists rs
+  pub both : (r : Result Costs CostFault) → cost_told r ≡ costs_of (costing bs) → CostBoth bs r
+  both r e = (e, cycles_told bs x.it x.is few r e)
+
+  whole : costs_of (costing bs) ≡ costs_of (judged x.it)
+  unfolding costing
+  whole = ap (λ r. costs_of (judged_after r)) x.is
+
+  calls_are : calls_in bs (held o.routines) ≡ call_lists rs
   unfolding rs
   calls_are = ap (calls_in bs) x.routines_are ∙ calls_same bs x.it.routines (listing-parts bs x.it x.is).0
 
-  module _ (calls rows : List (List Bool)) (costs : List ℕ) (call block cycle dear : Option Head) (told : Tabled calls (table_of (calls_in bs hs))) (call-told : call ≡ unknown_in hs (calls_in bs hs)) (block-told : (l : List Task) → ks ≡ map task_head l → AllByRecursion (TaskRead bs) l → block ≡ unknown_in hs (block_lists l)) (reach : Tabled rows (closed (entry calls) (code_at hs) (length hs))) (cycle-told : cycle ≡ cycle_from (entry rows) 0 hs) (capped : (l : List Routine) → hs ≡ map routine_head l → AllByRecursion (BodyRead bs) l → Capped costs (cost_in l 32)) (dear-told : dear ≡ dear_from (cost_of_code costs) hs) where
-    unknown-is : option_or call block ≡ unknown_in known (call_lists rs ++ block_lists ts)
-    unfolding rs ts known
+  -- the first fault of the three
+  after-unknown : {r : _} → unknown_in known (call_lists rs ++ block_lists ts) ≡ r → costs_of (costing bs) ≡ costs_of (unless r Unknown (unless (cycle_from (reach_table rs) 0 known) Cycle (unless (dear_from (cost_in rs 32) known) TooDear (Ok x.it))))
+  unfolding rs ts known
+  after-unknown e = whole ∙ ap (λ r. costs_of (unless r Unknown (unless (cycle_from (reach_table x.it.routines) 0 (map routine_head x.it.routines)) Cycle (unless (dear_from (cost_in x.it.routines 32) (map routine_head x.it.routines)) TooDear (Ok x.it))))) e
+
+  known_in : (lists : List (List Head)) (r : Option Head) → unknown_in (held o.routines) lists ≡ r → unknown_in known lists ≡ r
+  unfolding rs known
+  known_in lists r e = ap (λ hs. unknown_in hs lists) (sym x.routines_are) ∙ e
+
+  pub call-told : (h : Head) → unknown_in (held o.routines) (calls_in bs (held o.routines)) ≡ Some h → Err (Unknown h.at h.code) ≡ costs_of (costing bs)
+  call-told h e =
+      let f : unknown_in known (call_lists rs) ≡ Some h = ap (unknown_in known) (sym calls_are) ∙ known_in (calls_in bs (held o.routines)) (Some h) e in
+      sym (after-unknown (unknown-append known (call_lists rs) (block_lists ts) ∙ ap (λ y. or_else y (unknown_in known (block_lists ts))) f))
+
+  module _ (calls : List (List Bool)) (told : Tabled calls (table_of (calls_in bs (held o.routines))) × (unknown_in (held o.routines) (calls_in bs (held o.routines)) ≡ None)) (marks : List Bool) (strange : RowSays marks (λ c. not (used c (held o.routines)))) where
+    unknown-is : unknown_in known (call_lists rs ++ block_lists ts) ≡ unknown_in known (block_lists ts)
     unknown-is =
-        let blocks = block-told x.it.tasks x.tasks_are (listing-parts bs x.it x.is).1 in
-        (λ i. option_or (call-told i) (blocks i))
-        ∙ (λ i. option_or (unknown_in (x.routines_are i) (calls_are i)) (unknown_in (x.routines_are i) (block_lists x.it.tasks)))
-        ∙ sym (unknown-append (map routine_head x.it.routines) (call_lists x.it.routines) (block_lists x.it.tasks))
+        let f : unknown_in known (call_lists rs) ≡ None = ap (unknown_in known) (sym calls_are) ∙ known_in (calls_in bs (held o.routines)) None told.1 in
+        unknown-append known (call_lists rs) (block_lists ts) ∙ ap (λ y. or_else y (unknown_in known (block_lists ts))) f
 
-    cycle_is : cycle ≡ cycle_from (reach_table rs) 0 known
+    strange_too : RowSays marks (λ c. not (used c known))
     unfolding rs known
-    cycle_is =
-        cycle-told
-        ∙ ap (cycle_from (entry rows) 0) x.routines_are
-        ∙ cycle_same bs x.it.routines calls rows (listing-parts bs x.it x.is).0 few (subst (λ l. Tabled calls (table_of l)) calls_are told) (subst (λ l. Tabled rows (closed (entry calls) (code_at l) (length l))) x.routines_are reach)
+    strange_too = subst (λ hs. RowSays marks (λ c. not (used c hs))) x.routines_are strange
 
-    costs-told : Capped costs (cost_in rs 32)
-    unfolding rs
-    costs-told = capped x.it.routines x.routines_are (listing-parts bs x.it x.is).0
+    pub block-told : (y : Head × Head) → ((l : List Task) → held o.tasks ≡ map task_head l → AllByRecursion (TaskRead bs) l → Some y ≡ marked_in marks l) → Err (Unknown y.1.at y.1.code) ≡ costs_of (costing bs)
+    unfolding ts
+    block-told y e = sym (after-unknown (unknown-is ∙ block-unknown known marks strange_too bs ts y parts.1 (e ts x.tasks_are parts.1)))
 
-    dear_is : dear ≡ dear_from (cost_in rs 32) known
-    unfolding rs known
-    dear_is = dear-told ∙ ap (dear_from (cost_of_code costs)) x.routines_are ∙ dear_same bs (cost_in x.it.routines 32) costs x.it.routines (listing-parts bs x.it x.is).0 costs-told
+    module _ (fine : (l : List Task) → held o.tasks ≡ map task_head l → AllByRecursion (TaskRead bs) l → None ≡ marked_in marks l) (rows : List (List Bool)) (reach : Tabled rows (closed (entry calls) (code_at (held o.routines)) (length (held o.routines)))) where
+      none-unknown : unknown_in known (call_lists rs ++ block_lists ts) ≡ None
+      unfolding ts
+      none-unknown = unknown-is ∙ blocks-known known marks strange_too bs ts parts.1 (fine ts x.tasks_are parts.1)
 
-    -- from the first fault of the three, or none, to the whole answer
-    whole : costing bs ≡ in_order (option_or call block) cycle dear (Ok x.it)
-    unfolding costing rs ts known
-    whole = ap judged_after x.is ∙ (λ i. in_order (sym unknown-is i) (sym cycle_is i) (sym dear_is i) (Ok x.it))
+      cycle_is : cycle_from (entry rows) 0 (held o.routines) ≡ cycle_from (reach_table rs) 0 known
+      unfolding rs known
+      cycle_is =
+          ap (cycle_from (entry rows) 0) x.routines_are
+          ∙ cycle_same bs x.it.routines calls rows parts.0 few (subst (λ l. Tabled calls (table_of l)) calls_are told.0) (subst (λ hs. Tabled rows (closed (entry calls) (code_at hs) (length hs))) x.routines_are reach)
 
-    -- whatever the judgement is
-    pub judged-told : (o : Outline) → hs ≡ held o.routines → ks ≡ held o.tasks → (j : Result (Unit {0}) CostFault) → j ≡ in_order (option_or call block) cycle dear (Ok (tt {0})) → JudgedTold bs o costs j
-    unfolding rs known
-    judged-told o h k (Err f) e = promised (Err f) (ap costs_of (same_fault (tt {0}) x.it (option_or call block) cycle dear f e ∙ sym whole))
-    judged-told o h k (Ok u) e =
-        let n = no_fault (tt {0}) x.it (option_or call block) cycle dear e in
-        let exact : costs ≡ map (cost_in x.it.routines 32) (range_with_len 0 256) = costs_are x.it.routines costs (sym dear_is ∙ n.0) costs-told in
-        promised (Ok (record { outline = o; by_code = costs })) ((λ i. Ok ((sym h ∙ x.routines_are) i, (sym k ∙ x.tasks_are) i, exact i)) ∙ ap costs_of (sym (whole ∙ n.1)))
+      after_cycle : {r : _} → cycle_from (entry rows) 0 (held o.routines) ≡ r → costs_of (costing bs) ≡ costs_of (unless r Cycle (unless (dear_from (cost_in rs 32) known) TooDear (Ok x.it)))
+      after_cycle e = after-unknown none-unknown ∙ ap (λ r. costs_of (unless r Cycle (unless (dear_from (cost_in rs 32) known) TooDear (Ok x.it)))) (sym cycle_is ∙ e)
+
+      pub cycle_told : (h : Head) → Some h ≡ cycle_from (entry rows) 0 (held o.routines) → Err (Cycle h.at h.code) ≡ costs_of (costing bs)
+      cycle_told h e = sym (after_cycle (sym e))
+
+      module _ (no-cycle : None ≡ cycle_from (entry rows) 0 (held o.routines)) (costs : List ℕ) (capped : (l : List Routine) → held o.routines ≡ map routine_head l → AllByRecursion (BodyRead bs) l → Capped costs (cost_in l 32)) where
+        costs-told : Capped costs (cost_in rs 32)
+        unfolding rs
+        costs-told = capped x.it.routines x.routines_are parts.0
+
+        dear_is : dear_from (cost_of_code costs) (held o.routines) ≡ dear_from (cost_in rs 32) known
+        unfolding rs known
+        dear_is = ap (dear_from (cost_of_code costs)) x.routines_are ∙ dear_same bs (cost_in x.it.routines 32) costs x.it.routines parts.0 costs-told
+
+        after_dear : {r : _} → dear_from (cost_of_code costs) (held o.routines) ≡ r → costs_of (costing bs) ≡ costs_of (unless r TooDear (Ok x.it))
+        after_dear e = after_cycle (sym no-cycle) ∙ ap (λ r. costs_of (unless r TooDear (Ok x.it))) (sym dear_is ∙ e)
+
+        pub dear_told : (h : Head) → Some h ≡ dear_from (cost_of_code costs) (held o.routines) → Err (TooDear h.at h.code) ≡ costs_of (costing bs)
+        dear_told h e = sym (after_dear (sym e))
+
+        pub all_told : None ≡ dear_from (cost_of_code costs) (held o.routines) → Ok (held o.routines, held o.tasks, costs) ≡ costs_of (costing bs)
+        unfolding rs known
+        all_told e =
+            let c : costs ≡ map (cost_in x.it.routines 32) (range_with_len 0 256) = costs_are x.it.routines costs (sym dear_is ∙ sym e) costs-told in
+            (λ i. Ok (x.routines_are i, x.tasks_are i, c i)) ∙ sym (after_dear (sym e))

@@ -1,6 +1,6 @@
 -- What loading tells of the whole answer. Assumes nothing.
-use Rattle.std.proofs.Common.{◌≡◌, ℕ, zero, suc, ◌<◌, ◌≤◌, Bool, false, cond, eqb, List, [], ◌∷◌, ◌++◌, map, length, get_or, Some, None, Ok, Err, vec_items, Option, Result, Vec, sym, refl, ap, ◌∙◌, subst, ⊎_elim, zero-add, arith}
-use Rattle.std.proofs.lemmas.List.FromFn.{get_or-map-range_with_len, length-map-range_with_len}
+use Rattle.std.proofs.Common.{◌≡◌, ℕ, zero, suc, ◌<◌, ◌≤◌, Bool, false, eqb, List, [], ◌∷◌, ◌++◌, map, length, get_or, Some, None, Ok, Err, vec_items, Option, Result, Vec, sym, refl, ap, ◌∙◌, subst, ⊎_elim, zero-add, arith}
+use Rattle.std.proofs.lemmas.List.FromFn.{fill_by_all, get_or-map-range_with_len, length-map-range_with_len}
 use Rattle.std.proofs.lemmas.List.{get_or_past}
 use Rattle.std.proofs.lemmas.Bool.{cases_Bool, cond-true, cond-false, cases_lt, eqb-false}
 use Rattle.std.specs.List.{range_with_len, AllByRecursion}
@@ -21,18 +21,14 @@ use Rattle.reading.specs.Listings.{listing, routine_head, task_head}
 use Rattle.listing.specs.Marks.{first_marked, marked_in, or_next}
 use Rattle.listing.specs.Costing.{call_lists, block_lists, unknown_in, reach_table, cycle_from, dear_from, cost_in, unless, judged_after, costing}
 use Rattle.listing.specs.Costed.{costs_of}
-use Rattle.listing.specs.Loading.{Is, Are, Priced, first_free, free_in, unless_free, loaded_after, loading, TasksTold, LoadTold}
+use Rattle.listing.specs.Loading.{Is, Are, Priced, free_marks, unless_free, loaded_after, loading, TasksTold, LoadTold}
 use Rattle.std.proofs.ByRecursion.{All-from_get_or}
 use Rattle.reading.specs.Encoding.{encode}
-use Rattle.listing.specs.Reach.{CostedAll, CycleTold}
+use Rattle.listing.specs.Reach.{TrueCosts, CycleTold}
 use Rattle.reading.proofs.Encoded.{accepted}
 use Rattle.reading.proofs.Fitted.{read_fits}
 use Rattle.reading.proofs.Stepped.{nothing}
-use Rattle.listing.proofs.Judged.{listing-parts, none_dear}
-use Rattle.listing.proofs.Standing.{Headed, blocks_stand, small-blocks, cond_has, self_has}
-use Rattle.listing.specs.Places.{Stands}
-use Rattle.commands.specs.declared.table.Command.TheVariants as command
-use Rattle.commands.specs.declared.table.Context.TheVariants.{BlockDue}
+use Rattle.listing.proofs.Judged.{listing-parts, small-blocks, none_dear}
 
 clash : {X Y F : Type 0} {x : X} {f : F} → ◌≡◌ {A = Result X F} (Err f) (Ok x) → Y
 clash e = let z : ◌≡◌ {A = ℕ} 0 1 = cc in absurd (omega arith)
@@ -109,31 +105,6 @@ all-priced bs of marks (t ∷ ts) says high all e =
       all-priced bs of marks ts says high all.1 p.1,
     )
 
--- marks of the codes that cost nothing find the first block that costs nothing
-free_first : (of : ℕ → ℕ) (marks : List Bool) (hs : List Head) → ((c : ℕ) → c < 256 → get_or marks c false ≡ eqb (of c) 0) → AllByRecursion (λ (h : Head). h.code < 256) hs → first_marked marks hs ≡ first_free of hs
-free_first of marks [] says small = refl
-free_first of marks (h ∷ hs) says small = (λ i. cond (says h.code small.0 i) (Some h) (free_first of marks hs says small.1 i))
-
-free_same : (bs : List ℕ) (of : ℕ → ℕ) (marks : List Bool) (ts : List Task) → ((c : ℕ) → c < 256 → get_or marks c false ≡ eqb (of c) 0) → AllByRecursion (TaskRead bs) ts → marked_in marks ts ≡ free_in of ts
-free_same bs of marks [] says all = refl
-free_same bs of marks (t ∷ ts) says all =
-    let small = small-blocks (suc (length bs)) bs 0 _ (t.blocks, all.0.end) all.0.blocks_are in
-    (λ i. or_next (task_head t) (free_first of marks (block_heads t.blocks) says small i) (free_same bs of marks ts says all.1 i))
-
--- the first marked block stands where it is told
-first-stands : (bs : List ℕ) (marks : List Bool) (hs : List Head) (h : Head) → AllByRecursion (Headed BlockDue command.Block bs) hs → first_marked marks hs ≡ Some h → Headed BlockDue command.Block bs h
-first-stands bs marks [] h all e = nothing e
-first-stands bs marks (x ∷ xs) h all e = cond_has (Headed BlockDue command.Block bs) (get_or marks x.code false) (Some x) (first_marked marks xs) h (self_has (Headed BlockDue command.Block bs) x h all.0) (first-stands bs marks xs h all.1) e
-
-next-stands : (bs : List ℕ) (t : Head) (o : Option Head) (r : Option (Head × Head)) (y : Head × Head) → ((h : Head) → o ≡ Some h → Headed BlockDue command.Block bs h) → (r ≡ Some y → Headed BlockDue command.Block bs y.1) → or_next t o r ≡ Some y → Headed BlockDue command.Block bs y.1
-next-stands bs t (Some h) r y f g e = let same : (t, h) ≡ y = cc in subst (λ (z : Head × Head). Headed BlockDue command.Block bs z.1) same (f h refl)
-next-stands bs t None r y f g e = g e
-
-marked-stands : (bs : List ℕ) (marks : List Bool) (ts : List Task) (y : Head × Head) → AllByRecursion (TaskRead bs) ts → marked_in marks ts ≡ Some y → Headed BlockDue command.Block bs y.1
-marked-stands bs marks [] y all e = nothing e
-marked-stands bs marks (t ∷ ts) y all e =
-    next-stands bs (task_head t) (first_marked marks (block_heads t.blocks)) (marked_in marks ts) y (λ h q. first-stands bs marks (block_heads t.blocks) h (blocks_stand (suc (length bs)) bs 0 _ (t.blocks, all.0.end) all.0.blocks_are) q) (λ q. marked-stands bs marks ts y all.1 q) e
-
 -- the same tasks at costs that agree
 same-costs : (of by : ℕ → ℕ) (hs : List Head) → ((c : ℕ) → c < 256 → of c ≡ by c) → AllByRecursion (λ (h : Head). h.code < 256) hs → map (λ (h : Head). of h.code) hs ≡ map (λ (h : Head). by h.code) hs
 same-costs of by [] same small = refl
@@ -178,14 +149,16 @@ module _ (bs : List ℕ) (k : Costs) (x : Costed bs k) where
       (cases_lt c 256)
 
   module _ (marks : List Bool) (says : RowSays marks (λ c. eqb (cost_of_code k.by_code c) 0)) where
+    marks_are : marks ≡ free_marks of
+    unfolding of
+    marks_are = fill_by_all (λ c. eqb (cost_in x.it.routines 32 c) 0) marks 256 false says.wide (λ c h. says.says c h ∙ ap (λ n. eqb n 0) (table_is c h))
+
     whole : loading bs ≡ unless_free (marked_in marks x.it.tasks) x.it
     unfolding of loading
-    whole = ap loaded_after x.is ∙ ap (λ o. unless_free o x.it) (sym (free_same bs (cost_in x.it.routines 32) marks x.it.tasks (λ c h. says.says c h ∙ ap (λ n. eqb n 0) (table_is c h)) tasks-read))
+    whole = ap loaded_after x.is ∙ ap (λ m. unless_free (marked_in m x.it.tasks) x.it) (sym marks_are)
 
-    pub free_told : (y : Head × Head) → ((ts : List Task) → held k.outline.tasks ≡ map task_head ts → AllByRecursion (TaskRead bs) ts → Some y ≡ marked_in marks ts) → (loading bs ≡ Err (FreeBlock y.1.at y.0.code)) × (n : ℕ) × Stands bs (command.Block n) y.1.at
-    free_told y e =
-        let m = sym (e x.it.tasks x.tasks_are tasks-read) in
-        (whole ∙ ap (λ o. unless_free o x.it) m, y.1.code, (BlockDue, marked-stands bs marks x.it.tasks y tasks-read m))
+    pub free_told : (y : Head × Head) → ((ts : List Task) → held k.outline.tasks ≡ map task_head ts → AllByRecursion (TaskRead bs) ts → Some y ≡ marked_in marks ts) → loading bs ≡ Err (FreeBlock y.1.at y.0.code)
+    free_told y e = whole ∙ ap (λ o. unless_free o x.it) (sym (e x.it.tasks x.tasks_are tasks-read))
 
     module _ (none : (ts : List Task) → held k.outline.tasks ≡ map task_head ts → AllByRecursion (TaskRead bs) ts → None ≡ marked_in marks ts) where
       none_free : marked_in marks x.it.tasks ≡ None
@@ -212,7 +185,7 @@ module _ (bs : List ℕ) (k : Costs) (x : Costed bs k) where
             record {
               bytes = b;
               fits = read_fits bs x.it read_ok.0 b;
-              costs = subst (λ (m : Listing). CostedAll m.routines) (same_tree c.0 c.1) c.2;
+              costs = subst (λ (m : Listing). TrueCosts m.routines (cost_in m.routines 32)) (same_tree c.0 c.1) c.2.costs;
               tasks = true_tasks (vec_items v) t;
             },
           )

@@ -1,29 +1,33 @@
 -- From the code's tables to the definitions over the tree. Assumes nothing.
-use Rattle.std.proofs.Common.{◌≡◌, ℕ, zero, suc, ◌+◌, ◌<◌, ◌≤◌, Bool, cond, not, ◌&&◌, ◌||◌, ltb, ◌⊎◌, List, [], ◌∷◌, ◌++◌, map, length, Some, None, Ok, Option, sym, refl, ap, ◌∙◌, subst, inl, inr, ⊎_elim, arith, le-ltb, lt-ltb, ne_eqb}
+use Rattle.std.proofs.Common.{◌≡◌, ℕ, zero, suc, ◌+◌, ◌<◌, ◌≤◌, Bool, cond, not, ◌&&◌, ◌||◌, ltb, ◌⊎◌, List, [], ◌∷◌, ◌++◌, map, length, Some, None, Ok, Err, Option, Result, sym, refl, ap, ◌∙◌, subst, inl, inr, ⊎_elim, arith, le-ltb, lt-ltb, ne_eqb}
 use Rattle.std.proofs.lemmas.List.{length-map}
 use Rattle.std.proofs.lemmas.List.FromFn.{fill_by_all}
 use Rattle.std.proofs.ByRecursion.{All-get_or}
 use Rattle.std.proofs.lemmas.Bool.{cases_Bool, cond-true, cond-false, cases_eq, cases_lt, ltb-false}
 use Rattle.std.specs.List.{range_with_len, AllByRecursion}
+use Rattle.faults.specs.declared.fault.ReadFault.{ReadFault}
+use Rattle.commands.specs.declared.table.Command.{Command}
+use Rattle.commands.specs.declared.table.Command.TheVariants as command
+use Rattle.commands.specs.declared.table.Context.TheVariants.{BlockDue}
 use Rattle.reading.specs.declared.heads.Head.{Head}
+use Rattle.commands.specs.Commands.{answer}
 use Rattle.reading.specs.Heads.{head, used}
-use Rattle.reading.specs.Trees.{Routine, Task, Listing, block_heads}
+use Rattle.reading.specs.Trees.{Routine, Blocks, Task, Listing, block_heads}
 use Rattle.reading.specs.Runs.{cost_of_code}
-use Rattle.reading.specs.Listings.{listing, tasks-then, routines_from, tasks_from, routine_head, task_head}
-use Rattle.std.specs.Option.{option_or}
-use Rattle.listing.specs.Calls.{first_unknown}
+use Rattle.reading.specs.Listings.{by_command, listing, tasks-then, routines_from, tasks_from, blocks_from, routine_head, task_head}
+use Rattle.listing.specs.Calls.{first_unknown, or_else}
 use Rattle.listing.specs.Cycles.{Table, entry, closed, code_at, Tabled, RowSays}
+use Rattle.reading.specs.Steps.{block_of}
 use Rattle.listing.specs.Marks.{first_marked, marked_in, or_next}
 use Rattle.reading.specs.Bodies.{BodyRead, TaskRead}
 use Rattle.listing.specs.Costing.{Capped}
 use Rattle.listing.specs.Costing.{call_lists, block_lists, unknown_in, table_of, cycle_from, dear_from, cost_by, cost_in, calls_in}
 use Rattle.reading.proofs.Spelled.{went}
-use Rattle.reading.proofs.Stepped.{refused, nothing}
+use Rattle.reading.proofs.Stepped.{refused, nothing, FirstBlock, first_block}
 use Rattle.reading.proofs.Bodies.{all_bodies, all-tasks}
 use Rattle.listing.proofs.Walked.{calls_are}
-use Rattle.listing.proofs.Passed.{small-code}
-use Rattle.listing.proofs.Noted.{or_assoc}
-use Rattle.listing.proofs.Standing.{small-blocks}
+use Rattle.listing.proofs.Passes.{small-code}
+use Rattle.commands.proofs.Inverted.{small-block}
 
 -- a listing that is read has each routine and each task at its offset
 pub listing-parts : (bs : List ℕ) (l : Listing) → listing bs ≡ Ok l → AllByRecursion (BodyRead bs) l.routines × AllByRecursion (TaskRead bs) l.tasks
@@ -45,9 +49,49 @@ pub calls_same : (bs : List ℕ) (rs : List Routine) → AllByRecursion (BodyRea
 calls_same bs [] all = refl
 calls_same bs (r ∷ rs) all = (λ i. calls_are bs r all.0 i ∷ calls_same bs rs all.1 i)
 
-pub unknown-append : (known : List Head) (xs ys : List (List Head)) → unknown_in known (xs ++ ys) ≡ option_or (unknown_in known xs) (unknown_in known ys)
+or_else_assoc : (x y z : Option Head) → or_else (or_else x y) z ≡ or_else x (or_else y z)
+or_else_assoc (Some h) y z = refl
+or_else_assoc None y z = refl
+
+pub unknown-append : (known : List Head) (xs ys : List (List Head)) → unknown_in known (xs ++ ys) ≡ or_else (unknown_in known xs) (unknown_in known ys)
 unknown-append known [] ys = refl
-unknown-append known (x ∷ xs) ys = ap (option_or (first_unknown known x)) (unknown-append known xs ys) ∙ sym (or_assoc (first_unknown known x) (unknown_in known xs) (unknown_in known ys))
+unknown-append known (x ∷ xs) ys = ap (or_else (first_unknown known x)) (unknown-append known xs ys) ∙ sym (or_else_assoc (first_unknown known x) (unknown_in known xs) (unknown_in known ys))
+
+-- the codes of blocks are bytes
+block-is : (a : ℕ) (k : Command) (h : Head) → by_command (λ _. None) (λ _ _ _. None) (λ n. Some (head n a)) (λ _ _. None) None None k ≡ Some h → k ≡ command.Block h.code
+block-is a (command.Routine n) h e = nothing e
+block-is a (command.Work n) h e = nothing e
+block-is a (command.Call n) h e = nothing e
+block-is a command.Either h e = nothing e
+block-is a command.Or h e = nothing e
+block-is a command.EndEither h e = nothing e
+block-is a (command.Repeat n) h e = nothing e
+block-is a command.EndRepeat h e = nothing e
+block-is a command.EndRoutine h e = nothing e
+block-is a (command.Task n m k) h e = nothing e
+block-is a (command.Block n) h e = let same : head n a ≡ h = cc in ap (λ (x : Head). command.Block x.code) same
+block-is a (command.Point n m) h e = nothing e
+block-is a command.EndTask h e = nothing e
+block-is a command.Sheet h e = nothing e
+
+block-by : (bs : List ℕ) (p c at : ℕ) (r : Result (Option (ℕ × Command)) ReadFault) → answer BlockDue bs p ≡ r → block_of r ≡ Some (head c at) → c < 256
+block-by bs p c at (Ok None) a e = nothing e
+block-by bs p c at (Err f) a e = nothing e
+block-by bs p c at (Ok (Some k)) a e = small-block BlockDue bs p k.0 c (a ∙ ap (λ x. Ok (Some (k.0, x))) (block-is k.0 k.1 (head c at) e))
+
+block_command : (bs : List ℕ) (p c at : ℕ) → block_of (answer BlockDue bs p) ≡ Some (head c at) → c < 256
+block_command bs p c at e = block-by bs p c at (answer BlockDue bs p) refl e
+
+pub small-blocks : (n : ℕ) (bs : List ℕ) (count p : ℕ) (b : Blocks × ℕ) → blocks_from bs n count p ≡ Ok b → AllByRecursion (λ (h : Head). h.code < 256) (block_heads b.0)
+unfolding blocks_from
+small-blocks zero bs count p b e = refused e
+small-blocks (suc n) bs count p b e =
+    let f : FirstBlock bs n count p b = first_block bs n count p b e in
+    let one : f.code < 256 = block_command bs p f.code f.at f.reads in
+    ⊎_elim
+    (λ x. subst (λ y. AllByRecursion (λ (h : Head). h.code < 256) (block_heads y)) (sym x.1) (one, tt))
+    (λ x. subst (λ y. AllByRecursion (λ (h : Head). h.code < 256) (block_heads y)) (sym x.5) (one, small-blocks n bs (count + 1) _ (x.2, b.1) x.4))
+    f.follows
 
 -- marks of what is not known find the first that is not known
 module _ (known : List Head) (marks : List Bool) (says : RowSays marks (λ c. not (used c known))) where
@@ -64,7 +108,7 @@ module _ (known : List Head) (marks : List Bool) (says : RowSays marks (λ c. no
   second None = None
   second (Some x) = Some x.1
 
-  second-next : (t : Head) (o : Option Head) (r : Option (Head × Head)) → second (or_next t o r) ≡ option_or o (second r)
+  second-next : (t : Head) (o : Option Head) (r : Option (Head × Head)) → second (or_next t o r) ≡ or_else o (second r)
   unfolding second
   second-next t (Some h) r = refl
   second-next t None r = refl
@@ -74,7 +118,7 @@ module _ (known : List Head) (marks : List Bool) (says : RowSays marks (λ c. no
   blocks-unknown bs [] all = refl
   blocks-unknown bs (t ∷ ts) all =
       second-next (task_head t) (first_marked marks (block_heads t.blocks)) (marked_in marks ts)
-      ∙ (λ i. option_or (marked-is (block_heads t.blocks) (small-blocks (suc (length bs)) bs 0 _ (t.blocks, all.0.end) all.0.blocks_are) i) (blocks-unknown bs ts all.1 i))
+      ∙ (λ i. or_else (marked-is (block_heads t.blocks) (small-blocks (suc (length bs)) bs 0 _ (t.blocks, all.0.end) all.0.blocks_are) i) (blocks-unknown bs ts all.1 i))
 
   pub block-unknown : (bs : List ℕ) (ts : List Task) (x : Head × Head) → AllByRecursion (TaskRead bs) ts → Some x ≡ marked_in marks ts → unknown_in known (block_lists ts) ≡ Some x.1
   unfolding second

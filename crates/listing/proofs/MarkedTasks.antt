@@ -7,8 +7,8 @@ use Rattle.reading.specs.declared.heads.Head.{Head}
 use Rattle.reading.specs.Heads.{head}
 use Rattle.reading.specs.Trees.{Blocks, final, Task, block_heads}
 use Rattle.reading.specs.Listings.{task_head}
-use Rattle.reading.specs.Steps.{blocks_at}
 use Rattle.listing.specs.Marks.{first_marked, marked_in, or_next}
+use Rattle.reading.specs.Steps.{blocks_at}
 use Rattle.reading.specs.Bodies.{TaskRead}
 
 pub no_task : Task

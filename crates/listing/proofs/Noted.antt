@@ -10,8 +10,7 @@ use Rattle.reading.specs.declared.heads.Head.{Head}
 use Rattle.listing.specs.declared.calls.Calls.{Calls}
 use Rattle.commands.specs.Commands.{answer, after}
 use Rattle.reading.specs.Heads.{head, used}
-use Rattle.std.specs.Option.{option_or}
-use Rattle.listing.specs.Calls.{by_call, calls-turn, calls_from, first_unknown, CallsTold}
+use Rattle.listing.specs.Calls.{by_call, calls-turn, calls_from, first_unknown, or_else, CallsTold}
 
 -- neither a call nor the end of a routine
 no_call : {X : Type 0} (c : Command) (f : ℕ → X) (e x : X) → ((n : ℕ) → c ≡ Call n → ⊥) → (c ≡ EndRoutine → ⊥) → by_call f e x c ≡ x
@@ -38,13 +37,9 @@ or_true : (b : Bool) → (b || true) ≡ true
 or_true true = refl
 or_true false = refl
 
-pub or_none : (a : Option Head) → option_or a None ≡ a
-or_none None = refl
-or_none (Some x) = refl
-
-pub or_assoc : (a b c : Option Head) → option_or (option_or a b) c ≡ option_or a (option_or b c)
-or_assoc None b c = refl
-or_assoc (Some x) b c = refl
+or_else_none : (o : Option Head) → or_else o None ≡ o
+or_else_none None = refl
+or_else_none (Some h) = refl
 
 -- the calls that are noted, and those that are to come, are all
 pub record Noting (known whole : List Head) (bs : List ℕ) (r : Calls) (place : ℕ) : Type 0 where
@@ -52,7 +47,7 @@ pub record Noting (known whole : List Head) (bs : List ℕ) (r : Calls) (place :
   pub enough : length bs ≤ place + left
   pub long : length r.marks ≡ 256
   pub marks_are : (c : ℕ) → c < 256 → (get_or r.marks c false || used c (calls_from bs (suc left) place)) ≡ used c whole
-  pub unknown-is : option_or r.unknown (first_unknown known (calls_from bs (suc left) place)) ≡ first_unknown known whole
+  pub unknown-is : or_else r.unknown (first_unknown known (calls_from bs (suc left) place)) ≡ first_unknown known whole
 
 more-marks : (ms : List Bool) (k at c : ℕ) (rest : List Head) → length ms ≡ 256 → k < 256 → (get_or (set ms k true) c false || used c rest) ≡ (get_or ms c false || used c (head k at ∷ rest))
 more-marks ms k at c rest long h =
@@ -66,12 +61,12 @@ more-marks ms k at c rest long h =
     ap (λ b. b || used c rest) (get_or-set_other ms k c true false ne) ∙ ap (λ b. get_or ms c false || b) (sym (cond-false _ _ _ (ne_eqb k c e))))
     (cases_eq k c)
 
-more-unknown : (known : List Head) (o : Option Head) (h : Head) (rest : List Head) → option_or (option_or o (first_unknown known (h ∷ []))) (first_unknown known rest) ≡ option_or o (first_unknown known (h ∷ rest))
+more-unknown : (known : List Head) (o : Option Head) (h : Head) (rest : List Head) → or_else (or_else o (first_unknown known (h ∷ []))) (first_unknown known rest) ≡ or_else o (first_unknown known (h ∷ rest))
 more-unknown known (Some x) h rest = refl
 more-unknown known None h rest =
     ⊎_elim
-    (λ e. ap (λ o. option_or o (first_unknown known rest)) (cond-true _ _ _ e) ∙ sym (cond-true _ _ _ e))
-    (λ e. ap (λ o. option_or o (first_unknown known rest)) (cond-false _ _ _ e) ∙ sym (cond-false _ _ _ e))
+    (λ e. ap (λ o. or_else o (first_unknown known rest)) (cond-true _ _ _ e) ∙ sym (cond-true _ _ _ e))
+    (λ e. ap (λ o. or_else o (first_unknown known rest)) (cond-false _ _ _ e) ∙ sym (cond-false _ _ _ e))
     (cases_Bool (used h.code known))
 
 module _ (known whole : List Head) (bs : List ℕ) (r : Calls) (place : ℕ) (g : Noting known whole bs r place) where
@@ -84,7 +79,7 @@ module _ (known whole : List Head) (bs : List ℕ) (r : Calls) (place : ℕ) (g 
       record {
         wide = g.long;
         marks = λ c h. sym (or_false (get_or r.marks c false)) ∙ ap (λ hs. get_or r.marks c false || used c hs) (sym e) ∙ g.marks_are c h;
-        unknown = sym (or_none r.unknown) ∙ ap (λ hs. option_or r.unknown (first_unknown known hs)) (sym e) ∙ g.unknown-is;
+        unknown = sym (or_else_none r.unknown) ∙ ap (λ hs. or_else r.unknown (first_unknown known hs)) (sym e) ∙ g.unknown-is;
       }
 
   pub noted_fault : (f : ReadFault) → answer Body bs place ≡ Err f → CallsTold known whole r
@@ -112,10 +107,10 @@ module _ (known whole : List Head) (bs : List ℕ) (r : Calls) (place : ℕ) (g 
             enough = omega (arith, g.enough);
             long = g.long;
             marks_are = λ c h. ap (λ hs. get_or r.marks c false || used c hs) e ∙ g.marks_are c h;
-            unknown-is = ap (λ hs. option_or r.unknown (first_unknown known hs)) e ∙ g.unknown-is;
+            unknown-is = ap (λ hs. or_else r.unknown (first_unknown known hs)) e ∙ g.unknown-is;
           }
 
-      pub note_call : (k : ℕ) → c ≡ Call k → k < 256 → (s : Calls) → s.marks ≡ set r.marks k true → s.unknown ≡ option_or r.unknown (first_unknown known (head k at ∷ [])) → Noting known whole bs s q
+      pub note_call : (k : ℕ) → c ≡ Call k → k < 256 → (s : Calls) → s.marks ≡ set r.marks k true → s.unknown ≡ or_else r.unknown (first_unknown known (head k at ∷ [])) → Noting known whole bs s q
       note_call k h small s marks-now unknown-now =
           let e : head k at ∷ calls_from bs (suc (g.left - 1)) q ≡ calls_from bs (suc g.left) place = sym (rest-is e ∙ ap (by_call _ _ _) h ∙ ap (λ hs. head k at ∷ hs) rest-on) in
           record {
@@ -123,7 +118,7 @@ module _ (known whole : List Head) (bs : List ℕ) (r : Calls) (place : ℕ) (g 
             enough = omega (arith, g.enough);
             long = ap length marks-now ∙ length-set r.marks k true ∙ g.long;
             marks_are = λ c h. ap (λ ms. get_or ms c false || used c (calls_from bs (suc (g.left - 1)) q)) marks-now ∙ more-marks r.marks k at c _ g.long small ∙ ap (λ hs. get_or r.marks c false || used c hs) e ∙ g.marks_are c h;
-            unknown-is = ap (λ o. option_or o (first_unknown known (calls_from bs (suc (g.left - 1)) q))) unknown-now ∙ more-unknown known r.unknown (head k at) _ ∙ ap (λ hs. option_or r.unknown (first_unknown known hs)) e ∙ g.unknown-is;
+            unknown-is = ap (λ o. or_else o (first_unknown known (calls_from bs (suc (g.left - 1)) q))) unknown-now ∙ more-unknown known r.unknown (head k at) _ ∙ ap (λ hs. or_else r.unknown (first_unknown known hs)) e ∙ g.unknown-is;
           }
 
 pub noting : (known : List Head) (bs : List ℕ) (place q : ℕ) (r : Calls) → q ≡ place → r.marks ≡ replicate 256 false → r.unknown ≡ None → Noting known (calls_from bs (suc (length bs)) place) bs r q
@@ -132,5 +127,5 @@ noting known bs place q r on m u = subst (λ p. Noting known (calls_from bs (suc
   enough = omega arith;
   long = ap length m;
   marks_are = λ c h. ap (λ b. b || used c (calls_from bs (suc (length bs)) place)) (ap (λ ms. get_or ms c false) m ∙ get_or-replicate 256 c false false h);
-  unknown-is = ap (λ o. option_or o (first_unknown known (calls_from bs (suc (length bs)) place))) u;
+  unknown-is = ap (λ o. or_else o (first_unknown known (calls_from bs (suc (length bs)) place))) u;
 })

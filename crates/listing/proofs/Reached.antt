@@ -227,45 +227,24 @@ module _ (rs : List Routine) (acyclic : (i : ℕ) → i < length rs → reach_ta
       let less = count_lt (λ m. reach_table rs i (code_of rs m)) (λ _. true) (length rs) i (λ m l x. refl) h (acyclic i h) refl in
       omega (arith, count-all (length rs))
 
-  -- costs by passes, from costs at which a code that no routine has costs nothing
-  record ByPasses (a : ℕ → ℕ → ℕ) : Type 0 where
-    first : (c : ℕ) → ((of : ℕ → ℕ) → cost_by of rs c ≡ 0) → a 0 c ≡ 0
-    more : (k c : ℕ) → a (suc k) c ≡ cost_by (a k) rs c
-
-  -- wherever passes begin, they agree on a routine after more of them than its rank
-  agree : (a b : ℕ → ℕ → ℕ) → ByPasses a → ByPasses b → (k c : ℕ) → ((g : Gives rs c) → rank g.index < k) → a k c ≡ b k c
-  agree a b x y zero c h = ⊎_elim (λ z. x.first c z ∙ sym (y.first c z)) (λ g. absurd (omega (arith, h g))) (gives rs c)
-  agree a b x y (suc k) c h =
+  settles : (k c : ℕ) → ((g : Gives rs c) → rank g.index < k) → cost_in rs k c ≡ cost_in rs (suc k) c
+  unfolding cost_in
+  settles zero c h = ⊎_elim (λ z. sym (z (cost_in rs 0))) (λ g. absurd (omega (arith, h g))) (gives rs c)
+  settles (suc k) c h =
       ⊎_elim
-      (λ z. x.more k c ∙ z (a k) ∙ sym (y.more k c ∙ z (b k)))
+      (λ z. z (cost_in rs k) ∙ sym (z (cost_in rs (suc k))))
       (λ (g : Gives rs c).
-      x.more k c
-      ∙ g.cost-is (a k)
-      ∙ same-run (a k) (b k) g.body
-      (λ d e. agree a b x y k d (λ (f : Gives rs d).
+      g.cost-is (cost_in rs k)
+      ∙ same-run (cost_in rs k) (cost_in rs (suc k)) g.body
+      (λ d e. settles k d (λ (f : Gives rs d).
       let made : table_of (call_lists rs) g.index (code_of rs f.index) ≡ true = ap (λ l. used (code_of rs f.index) l) g.calls_are ∙ ap (λ n. used n (calls_run g.body)) f.code_is ∙ e in
       omega (arith, h g, falls g.index f.index g.inside f.inside made)))
-      ∙ sym (y.more k c ∙ g.cost-is (b k)))
+      ∙ sym (g.cost-is (cost_in rs (suc k))))
       (gives rs c)
 
-  passes : ByPasses (cost_in rs)
+  pub true_costs : length rs ≤ 32 → TrueCosts rs (cost_in rs 32)
   unfolding cost_in
-  passes = record { first = λ c z. refl; more = λ k c. refl }
-
-  later : ByPasses (λ k. cost_in rs (suc k))
-  unfolding cost_in
-  later = record { first = λ c z. z (cost_in rs 0); more = λ k c. refl }
-
-  module _ (few : length rs ≤ 32) where
-    low_32 : (c : ℕ) (g : Gives rs c) → rank g.index < 32
-    low_32 c g = omega (arith, low g.index g.inside)
-
-    pub true_costs : TrueCosts rs (cost_in rs 32)
-    unfolding cost_in
-    true_costs c = agree (cost_in rs) (λ k. cost_in rs (suc k)) passes later 32 c (low_32 c)
-
-    pub only-costs : (of : ℕ → ℕ) → TrueCosts rs of → (c : ℕ) → of c ≡ cost_in rs 32 c
-    only-costs of e c = agree (λ k. of) (cost_in rs) (record { first = λ d z. e d ∙ z of; more = λ k d. e d }) passes 32 c (low_32 c)
+  true_costs few c = settles 32 c (λ (g : Gives rs c). omega (arith, low g.index g.inside))
 
 -- what costing tells of cycles
 clash : {X Y F : Type 0} {x : X} {f : F} → ◌≡◌ {A = Result X F} (Err f) (Ok x) → Y
@@ -279,7 +258,7 @@ module _ (bs : List ℕ) (l : Listing) (is : listing bs ≡ Ok l) (few : length 
   unfolding rs
   settled e =
       let free : (i : ℕ) → i < length rs → reach_table rs i (code_of rs i) ≡ false = λ i h. ap (λ n. reach_table rs n (code_of rs i)) (sym (zero-add i)) ∙ none_of (reach_table rs) 0 (map routine_head rs) e i (omega (arith, length-map rs routine_head)) in
-      record { acyclic = λ i h p. not_cyclic rs i (free i h) p; costs = true_costs rs free few; only = only-costs rs free few }
+      record { acyclic = λ i h p. not_cyclic rs i (free i h) p; costs = true_costs rs free few }
 
   told-first : (h : Head) (at c : ℕ) → cycle_from (reach_table rs) 0 (map routine_head rs) ≡ Some h → at ≡ h.at → c ≡ h.code → FirstCycle rs at c
   unfolding rs

@@ -1,15 +1,13 @@
 -- Steps through the routines: their calls, the first cycle and the first dear one. Assumes nothing.
-use Rattle.std.proofs.Common.{◌≡◌, ℕ, zero, suc, ◌+◌, ◌<◌, ◌≤◌, Bool, true, false, ◌≢◌, List, [], ◌∷◌, length, get_or, drop, set, replicate, Some, None, Option, sym, refl, ap, ◌∙◌, ⊎_elim, arith, length-set, get_or-set_other, get_or-set_same, le-ltb, lt-ltb}
+use Rattle.std.proofs.Common.{◌≡◌, ℕ, zero, suc, ◌+◌, ◌<◌, ◌≤◌, Bool, true, false, ◌≢◌, List, [], ◌∷◌, length, get_or, drop, set, replicate, Some, None, sym, refl, ap, ◌∙◌, ⊎_elim, arith, length-set, get_or-set_other, get_or-set_same, le-ltb, lt-ltb}
 use Rattle.std.proofs.lemmas.List.{at_drop_more, at_drop_all, get_or_past, get_or-replicate}
 use Rattle.std.proofs.lemmas.Bool.{cond-true, cond-false, cases_lt, cases_eq}
 use Rattle.reading.specs.declared.heads.Head.{Head}
 use Rattle.listing.specs.declared.calls.Calls.{Calls}
 use Rattle.reading.specs.Heads.{head, used}
-use Rattle.std.specs.Option.{option_or}
-use Rattle.listing.specs.Calls.{first_unknown, CallsTold}
+use Rattle.listing.specs.Calls.{first_unknown, or_else, CallsTold}
 use Rattle.listing.specs.Cycles.{Table, entry, Tabled, Wide}
 use Rattle.listing.specs.Costing.{table_of, unknown_in, cycle_from, dear_from}
-use Rattle.listing.proofs.Noted.{or_assoc, or_none}
 
 -- the first that reaches itself
 module _ (t : Table) (hs : List Head) (i : ℕ) where
@@ -52,35 +50,32 @@ no_row (suc n) zero c = no_mark 256 c
 no_row (suc n) (suc j) c = no_row n j c
 
 -- so many rows are filled, and the others are empty
-pub record Filling (known : List Head) (lists : List (List Head)) (rows : List (List Bool)) (unknown : Option Head) (i : ℕ) : Type 0 where
+pub record Filling (known : List Head) (lists : List (List Head)) (rows : List (List Bool)) (i : ℕ) : Type 0 where
   pub long : length rows ≡ 32
   pub wide : Wide rows
   pub filled : (j c : ℕ) → j < i → c < 256 → entry rows j c ≡ table_of lists j c
   pub empty : (j c : ℕ) → i ≤ j → entry rows j c ≡ false
-  pub so_far : option_or unknown (unknown_in known (drop i lists)) ≡ unknown_in known lists
+  pub unknown : unknown_in known (drop i lists) ≡ unknown_in known lists
 
-module _ (known : List Head) (lists : List (List Head)) (rows : List (List Bool)) (unknown : Option Head) (i : ℕ) (g : Filling known lists rows unknown i) where
-  pub filled-all : length lists ≤ i → Tabled rows (table_of lists)
-  filled-all h =
-      record {
-        wide = g.wide;
-        says = λ j c _ k. ⊎_elim (λ below. g.filled j c below k) (λ above. g.empty j c above ∙ sym (ap (used c) (get_or_past lists j [] (omega arith)))) (cases_lt j i);
-      }
-
-  pub unknown-all : length lists ≤ i → unknown ≡ unknown_in known lists
-  unknown-all h = sym (or_none unknown) ∙ ap (option_or unknown) (sym (at_drop_all (unknown_in known) lists i h)) ∙ g.so_far
+module _ (known : List Head) (lists : List (List Head)) (rows : List (List Bool)) (i : ℕ) (g : Filling known lists rows i) where
+  pub filled-all : length lists ≤ i → i ≤ 32 → Tabled rows (table_of lists) × (unknown_in known lists ≡ None)
+  filled-all h few = (
+    record {
+      wide = g.wide;
+      says = λ j c _ k. ⊎_elim (λ below. g.filled j c below k) (λ above. g.empty j c above ∙ sym (ap (used c) (get_or_past lists j [] (omega arith)))) (cases_lt j i);
+    },
+    sym g.unknown ∙ at_drop_all (unknown_in known) lists i h,
+  )
 
   module _ (h : i < length lists) (few : i < 32) (hs : List Head) (is : hs ≡ get_or lists i []) (r : Calls) (t : CallsTold known hs r) where
-    more_so_far : option_or (option_or unknown r.unknown) (unknown_in known (drop (i + 1) lists)) ≡ unknown_in known lists
-    more_so_far =
-        or_assoc unknown r.unknown (unknown_in known (drop (i + 1) lists))
-        ∙ ap (λ o. option_or unknown (option_or o (unknown_in known (drop (i + 1) lists)))) t.unknown
-        ∙ ap (λ l. option_or unknown (option_or (first_unknown known l) (unknown_in known (drop (i + 1) lists)))) is
-        ∙ ap (option_or unknown) (sym (at_drop_more (unknown_in known) lists i [] h))
-        ∙ g.so_far
+    unknown-step : unknown_in known lists ≡ or_else (first_unknown known hs) (unknown_in known (drop (i + 1) lists))
+    unknown-step = sym g.unknown ∙ at_drop_more (unknown_in known) lists i [] h ∙ ap (λ l. or_else (first_unknown known l) (unknown_in known (drop (i + 1) lists))) (sym is)
 
-    pub fill_more : Filling known lists (set rows i r.marks) (option_or unknown r.unknown) (i + 1)
-    fill_more =
+    pub unknown-found : (x : Head) → r.unknown ≡ Some x → unknown_in known lists ≡ Some x
+    unknown-found x e = unknown-step ∙ ap (λ o. or_else o (unknown_in known (drop (i + 1) lists))) (sym t.unknown ∙ e)
+
+    pub fill_more : r.unknown ≡ None → Filling known lists (set rows i r.marks) (i + 1)
+    fill_more e =
         let inside : i < length rows = omega (arith, g.long) in
         record {
           long = length-set rows i r.marks ∙ g.long;
@@ -93,15 +88,15 @@ module _ (known : List Head) (lists : List (List Head)) (rows : List (List Bool)
               (λ other. let ne : j ≢ i = other in let below : j < i = omega arith in ap (λ row. get_or row c false) (get_or-set_other rows i j r.marks [] ne) ∙ g.filled j c below l)
               (cases_eq j i);
           empty = λ j c k. let ne : j ≢ i = omega arith in ap (λ row. get_or row c false) (get_or-set_other rows i j r.marks [] ne) ∙ g.empty j c (omega arith);
-          so_far = more_so_far;
+          unknown = sym (unknown-step ∙ ap (λ o. or_else o (unknown_in known (drop (i + 1) lists))) (sym t.unknown ∙ e));
         }
 
-pub none_filled : (known : List Head) (lists : List (List Head)) → Filling known lists (replicate 32 (replicate 256 false)) None 0
+pub none_filled : (known : List Head) (lists : List (List Head)) → Filling known lists (replicate 32 (replicate 256 false)) 0
 none_filled known lists =
     record {
       long = refl;
       wide = λ j k. ap length (get_or-replicate 32 j (replicate 256 false) [] k);
       filled = λ j c k l. absurd (omega arith);
       empty = λ j c k. no_row 32 j c;
-      so_far = refl;
+      unknown = refl;
     }

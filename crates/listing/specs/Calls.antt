@@ -45,6 +45,10 @@ abbrev pub first_unknown : List Head → List Head → Option Head
 first_unknown known [] = None
 first_unknown known (h ∷ hs) = cond (used h.code known) (first_unknown known hs) (Some h)
 
+abbrev pub or_else : Option Head → Option Head → Option Head
+or_else (Some h) o = Some h
+or_else None o = o
+
 -- what is told of calls: which codes they have, and the first that is not known
 pub record CallsTold (known hs : List Head) (r : Calls) : Type 0 where
   pub wide : length r.marks ≡ 256

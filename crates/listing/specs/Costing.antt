@@ -1,5 +1,5 @@
 -- What costing tells of a listing. Assumes nothing.
-use Rattle.std.specs.Prelude.{◌≡◌, ℕ, zero, suc, ◌+◌, ◌<◌, min, cond, List, [], ◌∷◌, ◌++◌, map, length, Some, None, Ok, Err, Option, Result, ◌==◌, nat_lt, slice_index, slice_index_or}
+use Rattle.std.specs.Prelude.{◌≡◌, ℕ, zero, suc, ◌+◌, ◌<◌, min, Bool, cond, List, [], ◌∷◌, ◌++◌, map, length, Some, None, Ok, Err, Option, Result, ◌==◌, nat_lt, slice_index, slice_index_or}
 use Rattle.faults.specs.declared.fault.ReadFault.{ReadFault}
 use Rattle.faults.specs.declared.fault.CostFault.{CostFault}
 use Rattle.faults.specs.declared.fault.CostFault.TheVariants.{Read, Unknown, Cycle, TooDear}
@@ -7,9 +7,8 @@ use Rattle.reading.specs.declared.heads.Head.{Head}
 use Rattle.reading.specs.Heads.{used}
 use Rattle.reading.specs.Trees.{Routine, Task, Listing, run_cost, calls_run, block_heads}
 use Rattle.reading.specs.Listings.{listing, routine_head}
-use Rattle.std.specs.Option.{option_or}
-use Rattle.listing.specs.Calls.{first_unknown, calls_at}
-use Rattle.listing.specs.Cycles.{Table, closed, code_at}
+use Rattle.listing.specs.Calls.{first_unknown, or_else, calls_at}
+use Rattle.listing.specs.Cycles.{Table, closed, code_at, Tabled}
 
 -- the calls of each routine, and the blocks of each task
 abbrev pub call_lists : List Routine → List (List Head)
@@ -21,7 +20,7 @@ block_lists = map (λ (t : Task). block_heads t.blocks)
 -- the first code that is not known, over several lists
 abbrev pub unknown_in : List Head → List (List Head) → Option Head
 unknown_in known [] = None
-unknown_in known (hs ∷ rest) = option_or (first_unknown known hs) (unknown_in known rest)
+unknown_in known (hs ∷ rest) = or_else (first_unknown known hs) (unknown_in known rest)
 
 -- the routine at an index calls a code
 abbrev pub table_of : List (List Head) → Table
@@ -56,14 +55,12 @@ abbrev pub unless : {X : Type 0} → Option Head → (ℕ → ℕ → CostFault)
 unless (Some h) fault next = Err (fault h.at h.code)
 unless None fault next = next
 
--- 7, then 8, then 9
-abbrev pub in_order : {X : Type 0} → Option Head → Option Head → Option Head → Result X CostFault → Result X CostFault
-in_order unknown cycle dear next = unless unknown Unknown (unless cycle Cycle (unless dear TooDear next))
-
--- each over the whole listing
+-- 7, then 8, then 9, each over the whole listing
 abbrev pub judged : Listing → Result Listing CostFault
 judged l =
-    in_order (unknown_in (map routine_head l.routines) (call_lists l.routines ++ block_lists l.tasks)) (cycle_from (reach_table l.routines) 0 (map routine_head l.routines)) (dear_from (cost_in l.routines 32) (map routine_head l.routines)) (Ok l)
+    unless (unknown_in (map routine_head l.routines) (call_lists l.routines ++ block_lists l.tasks)) Unknown
+    (unless (cycle_from (reach_table l.routines) 0 (map routine_head l.routines)) Cycle
+    (unless (dear_from (cost_in l.routines 32) (map routine_head l.routines)) TooDear (Ok l)))
 
 abbrev pub judged_after : Result Listing ReadFault → Result Listing CostFault
 judged_after (Ok l) = judged l
@@ -76,6 +73,11 @@ costing bs = judged_after (listing bs)
 -- the calls that are met in each routine
 abbrev pub calls_in : List ℕ → List Head → List (List Head)
 calls_in bs = map (λ (h : Head). calls_at bs h.at)
+
+-- what the walks through all routines tell
+abbrev pub TableTold : List Head → List (List Head) → Result (List (List Bool)) Head → Type 0
+TableTold known lists (Ok rows) = Tabled rows (table_of lists) × (unknown_in known lists ≡ None)
+TableTold known lists (Err h) = unknown_in known lists ≡ Some h
 
 -- costs by code, at most 1,000,001
 pub record Capped (costs : List ℕ) (of : ℕ → ℕ) : Type 0 where

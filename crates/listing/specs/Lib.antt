@@ -3,7 +3,6 @@ pub mod Cycles
 pub mod Marks
 pub mod Costing
 pub mod Costed
-pub mod Reach
-pub mod Places
 pub mod Loading
+pub mod Reach
 pub mod Worked

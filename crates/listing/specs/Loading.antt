@@ -1,6 +1,6 @@
 -- What loading tells of a listing. Assumes nothing.
-use Rattle.std.specs.Prelude.{◌≡◌, ℕ, ◌≤◌, true, cond, List, [], ◌∷◌, map, length, Some, None, Ok, Err, vec_items, Option, Result, Vec, ◌==◌}
-use Rattle.std.specs.List.{AllByRecursion}
+use Rattle.std.specs.Prelude.{◌≡◌, ℕ, ◌≤◌, Bool, true, List, [], ◌∷◌, map, length, Some, None, Ok, Err, vec_items, Option, Result, Vec, nat_eq}
+use Rattle.std.specs.List.{range_with_len, AllByRecursion}
 use Rattle.tasks.specs.declared.blocks.Block.{Block}
 use Rattle.tasks.specs.declared.points.Point.{Point}
 use Rattle.tasks.specs.Ranges.{body_fits}
@@ -11,14 +11,11 @@ use Rattle.faults.specs.declared.fault.LoadFault.TheVariants.{Cost, FreeBlock, N
 use Rattle.listing.specs.declared.parts.Parts.{Parts}
 use Rattle.reading.specs.declared.heads.Head.{Head}
 use Rattle.reading.specs.Trees.{Blocks, final, block, Task, Listing, block_heads}
-use Rattle.listing.specs.Marks.{or_next}
-use Rattle.reading.specs.Listings.{task_head}
+use Rattle.listing.specs.Marks.{marked_in}
 use Rattle.listing.specs.Costing.{cost_in, costing}
 use Rattle.reading.specs.Encoding.{encode}
 use Rattle.reading.specs.Fitting.{Fits}
-use Rattle.listing.specs.Places.{Stands, FaultStands}
-use Rattle.listing.specs.Reach.{CostedAll}
-use Rattle.commands.specs.declared.table.Command.TheVariants as command
+use Rattle.listing.specs.Reach.{TrueCosts}
 
 -- the points between blocks: ticks and charge
 abbrev pub points_of : Blocks → List (ℕ × ℕ)
@@ -44,15 +41,9 @@ Are of [] (t ∷ ts) = ⊥
 Are of (x ∷ xs) [] = ⊥
 Are of (x ∷ xs) (t ∷ ts) = Is of x t × Are of xs ts
 
--- the first block whose routine costs nothing
-abbrev pub first_free : (ℕ → ℕ) → List Head → Option Head
-first_free of [] = None
-first_free of (h ∷ hs) = cond (of h.code == 0) (Some h) (first_free of hs)
-
--- the same over some tasks, with the task
-abbrev pub free_in : (ℕ → ℕ) → List Task → Option (Head × Head)
-free_in of [] = None
-free_in of (t ∷ ts) = or_next (task_head t) (first_free of (block_heads t.blocks)) (free_in of ts)
+-- the codes of routines that cost nothing
+abbrev pub free_marks : (ℕ → ℕ) → List Bool
+free_marks of = map (λ c. nat_eq (of c) 0) (range_with_len 0 256)
 
 -- 10, over the whole listing
 abbrev pub unless_free : Option (Head × Head) → Listing → Result Listing LoadFault
@@ -60,7 +51,7 @@ unless_free (Some x) l = Err (FreeBlock x.1.at x.0.code)
 unless_free None l = Ok l
 
 abbrev pub loaded_after : Result Listing CostFault → Result Listing LoadFault
-loaded_after (Ok l) = unless_free (free_in (cost_in l.routines 32) l.tasks) l
+loaded_after (Ok l) = unless_free (marked_in (free_marks (cost_in l.routines 32)) l.tasks) l
 loaded_after (Err f) = Err (Cost f)
 
 -- the listing whose tasks are loaded, or the fault
@@ -93,12 +84,12 @@ TasksTold of ts (Err f) = f ≡ NoMemory
 pub record Loaded (bs : List ℕ) (l : Listing) (held : List HeldTask) : Type 0 where
   pub bytes : bs ≡ encode l
   pub fits : Fits l
-  pub costs : CostedAll l.routines
+  pub costs : TrueCosts l.routines (cost_in l.routines 32)
   pub tasks : Are (cost_in l.routines 32) held l.tasks
 
--- what the public loading call tells: the tasks, want of memory, or the fault, at whose place the command at fault stands
+-- what the public loading call tells: the tasks, want of memory, or the fault
 abbrev pub LoadTold : {Z : Type 0} → List ℕ → Result (Vec HeldTask Z) LoadFault → Type 0
 LoadTold bs (Ok v) = (l : Listing) × (loading bs ≡ Ok l) × Loaded bs l (vec_items v)
-LoadTold bs (Err (Cost f)) = (loading bs ≡ Err (Cost f)) × FaultStands bs f
-LoadTold bs (Err (FreeBlock at c)) = (loading bs ≡ Err (FreeBlock at c)) × (n : ℕ) × Stands bs (command.Block n) at
+LoadTold bs (Err (Cost f)) = loading bs ≡ Err (Cost f)
+LoadTold bs (Err (FreeBlock at c)) = loading bs ≡ Err (FreeBlock at c)
 LoadTold bs (Err NoMemory) = (l : Listing) × (loading bs ≡ Ok l)

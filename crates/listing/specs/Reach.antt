@@ -1,25 +1,21 @@
 -- Calls through others, and true costs. Assumes nothing.
-use Rattle.std.specs.Prelude.{◌≡◌, ℕ, ◌<◌, true, List, [], map, length, get_or, Ok, Err, Result, slice_index_or}
+use Rattle.std.specs.Prelude.{◌≡◌, ℕ, ◌<◌, true, List, map, length, Ok, Err, Result, slice_index_or}
 use Rattle.faults.specs.declared.fault.CostFault.{CostFault}
 use Rattle.faults.specs.declared.fault.CostFault.TheVariants.{Read, Unknown, Cycle, TooDear}
 use Rattle.listing.specs.declared.cost.Costs.{Costs}
-use Rattle.reading.specs.Heads.{head, used}
+use Rattle.reading.specs.Heads.{head}
 use Rattle.reading.specs.Trees.{Routine, Listing}
 use Rattle.reading.specs.Listings.{listing, routine_head}
 use Rattle.listing.specs.Cycles.{code_at}
-use Rattle.listing.specs.Costing.{call_lists, cost_by, cost_in}
+use Rattle.listing.specs.Costing.{call_lists, table_of, cost_by, cost_in}
 
 -- the code of the routine at an index
 abbrev pub code_of : List Routine → ℕ → ℕ
 code_of rs = code_at (map routine_head rs)
 
--- the body of the routine at an index has a call of a code
-abbrev pub Calls : List Routine → ℕ → ℕ → Type 0
-Calls rs i c = used c (slice_index_or (call_lists rs) i []) ≡ true
-
 -- the routine at an index calls a code, at once or through others
 pub data Reaches (rs : List Routine) : ℕ → ℕ → Type 0 where
-  calls : {i c : ℕ} → Calls rs i c → Reaches rs i c
+  calls : {i c : ℕ} → table_of (call_lists rs) i c ≡ true → Reaches rs i c
   through : {i j c : ℕ} → j < length rs → Reaches rs i (code_of rs j) → Reaches rs j c → Reaches rs i c
 
 -- the routine at an index calls itself
@@ -34,15 +30,14 @@ TrueCosts rs of = (c : ℕ) → of c ≡ cost_by of rs c
 pub record FirstCycle (rs : List Routine) (at c : ℕ) : Type 0 where
   pub index : ℕ
   pub inside : index < length rs
-  pub told : get_or (map routine_head rs) index (head 0 0) ≡ head c at
+  pub told : slice_index_or (map routine_head rs) index (head 0 0) ≡ head c at
   pub cyclic : Cyclic rs index
   pub first : (j : ℕ) → j < index → Cyclic rs j → ⊥
 
--- no routine calls itself, the costs are true, and no others are
+-- no routine calls itself, and the costs are true
 pub record CostedAll (rs : List Routine) : Type 0 where
   pub acyclic : (i : ℕ) → i < length rs → Cyclic rs i → ⊥
   pub costs : TrueCosts rs (cost_in rs 32)
-  pub only : (of : ℕ → ℕ) → TrueCosts rs of → (c : ℕ) → of c ≡ cost_in rs 32 c
 
 -- what costing tells of cycles
 abbrev pub CycleTold : List ℕ → Result Costs CostFault → Type 0

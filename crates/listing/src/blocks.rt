@@ -1,21 +1,20 @@
 // Walks through a task's blocks.
-ghost use Rattle.std.specs.Prelude.{◌≡◌, ℕ, ◌<◌, ◌≤◌, not, List, map, length, IfSome, Ok, OnSome};
+ghost use Rattle.std.specs.Prelude.{◌≡◌, ℕ, ◌+◌, ◌<◌, ◌≤◌, not, List, map, length, IfSome, Ok, OnSome};
 ghost use Rattle.commands.specs.declared.table.Context.TheVariants.{Tasks, BlockDue, AfterBlock};
 ghost use Rattle.commands.specs.Commands.{answer, after};
 ghost use Rattle.std.specs.List.{AllByRecursion};
 ghost use Rattle.reading.specs.Bodies.{TaskRead};
 ghost use Rattle.listing.specs.Cycles.{RowSays};
-ghost use Rattle.reading.specs.Heads.{used};
+ghost use Rattle.reading.specs.Heads.{held, used};
 ghost use Rattle.reading.specs.Listings.{task_head};
 ghost use Rattle.reading.specs.Trees.{Blocks, Task, block_heads};
-ghost use Rattle.reading.specs.Steps.{block_of, point_of, blocks_at};
 ghost use Rattle.listing.specs.Marks.{task_of, first_marked, marked_in};
+ghost use Rattle.reading.specs.Steps.{block_of, point_of, blocks_at};
 
 use crate::parts::Clock;
 use commands::reader::Reader;
 use commands::table::{Command, Context};
-use reading::heads::Head;
-use reading::heads::methods::listed;
+use reading::heads::{Head, Heads};
 
 // The task at the reader's place, if one is there.
 pub(crate) fn next_task(reader: &mut Reader) -> Option<Clock>
@@ -101,28 +100,26 @@ pub(crate) fn first_block(bytes: &[u8], at: usize, marks: &[bool; 256]) -> Optio
 }
 
 // The first block, over all tasks, whose routine's code is marked, and before it the head of its task.
-pub(crate) fn marked_block(
-    bytes: &[u8],
-    tasks: &[Head],
-    marks: &[bool; 256],
-) -> Option<(Head, Head)>
-    ensures { (ts : List Task) → tasks.now ≡ map task_head ts → AllByRecursion (TaskRead bytes.now) ts → result ≡ marked_in marks.now ts }
+pub(crate) fn marked_block(bytes: &[u8], tasks: &Heads, marks: &[bool; 256]) -> Option<(Head, Head)>
+    ensures { (ts : List Task) → held tasks.now ≡ map task_head ts → AllByRecursion (TaskRead bytes.now) ts → result ≡ marked_in marks.now ts }
 {
-    for task in tasks {
+    let count = tasks.len();
+    for i in 0..count {
+        let task = tasks.get(i);
         if let Some(block) = first_block(bytes, task.at, marks) {
-            return Some((*task, block));
+            return Some((task, block));
         }
     }
     None
 }
 
 // The codes that no routine has.
-pub(crate) fn unlisted(routines: &[Head]) -> [bool; 256]
-    ensures { RowSays result (λ c. not (used c routines.now)) }
+pub(crate) fn unlisted(routines: &Heads) -> [bool; 256]
+    ensures { RowSays result (λ c. not (used c (held routines.now))) }
 {
     let mut marks = [false; 256];
     for c in 0..256usize {
-        marks[c] = !listed(routines, c as u8);
+        marks[c] = !routines.contains(c as u8);
     }
     marks
 }

@@ -1,64 +1,112 @@
 // Costing: unknown routines, cycles of calls, and what each routine costs.
-ghost use Rattle.std.specs.Prelude.{◌≡◌, List, map, Ok};
-ghost use Rattle.std.specs.Option.{option_or};
+ghost use Rattle.std.specs.Prelude.{◌≡◌, ℕ, ◌+◌, ◌<◌, ◌≤◌, min, false, List, [], ◌∷◌, map, length, Some, None, Ok};
 ghost use Rattle.std.specs.List.{AllByRecursion};
-ghost use Rattle.reading.specs.Bodies.{TaskRead};
-ghost use Rattle.reading.specs.Listings.{task_head};
-ghost use Rattle.reading.specs.Trees.{Task};
-ghost use Rattle.listing.specs.Costing.{unknown_in, block_lists, in_order, costing};
+ghost use Rattle.reading.specs.Heads.{held, used};
+ghost use Rattle.commands.specs.declared.table.Context.TheVariants.{Top};
+ghost use Rattle.reading.specs.Bodies.{BodyRead};
+ghost use Rattle.listing.specs.Costing.{Capped};
+ghost use Rattle.commands.specs.Commands.{after};
+ghost use Rattle.reading.specs.Listings.{routine_head};
+ghost use Rattle.reading.specs.Trees.{Routine, run_cost};
+ghost use Rattle.reading.specs.Runs.{Ended, cost_of_code, run_at};
+ghost use Rattle.listing.specs.Calls.{calls_at};
+ghost use Rattle.listing.specs.Cycles.{entry, Tabled, Wide};
+ghost use Rattle.listing.specs.Costing.{table_of, unknown_in, cycle_from, dear_from, cost_by, cost_in, calls_in, TableTold, costing};
 ghost use Rattle.listing.specs.Costed.{cost_told, costs_of};
-ghost use Rattle.listing.specs.Places.{PlaceTold};
 ghost use Rattle.listing.specs.Reach.{CycleTold};
 ghost use Rattle.listing.specs.Worked.{Worked};
 
 use crate::blocks::{marked_block, unlisted};
-use crate::calls::call_table;
-use crate::cycles::{first_cycle, reached};
-use crate::passes::{first_dear, settled};
+use crate::calls::Calls;
+use crate::cycles::reached;
+use commands::reader::Reader;
+use commands::table::Context;
 use faults::fault::CostFault;
-use reading::heads::Head;
+use reading::heads::{Head, Heads};
 use reading::outline::Outline;
 use reading::read::read;
+use reading::walk::cost_run;
 
-// The first block of a code that no routine has.
-fn unknown_block(bytes: &[u8], routines: &[Head], tasks: &[Head]) -> Option<Head>
-    ensures { (ts : List Task) → tasks.now ≡ map task_head ts → AllByRecursion (TaskRead bytes.now) ts → result ≡ unknown_in routines.now (block_lists ts) }
+// The codes that each routine calls, or the first call of a code that no routine has.
+fn call_table(bytes: &[u8], routines: &Heads) -> Result<[[bool; 256]; 32], Head>
+    ensures { TableTold (held routines.now) (calls_in bytes.now (held routines.now)) result }
 {
-    let strange = unlisted(routines);
-    match marked_block(bytes, tasks, &strange) {
-        Some((_, block)) => Some(block),
-        None => None,
+    let mut rows = [[false; 256]; 32];
+    let count = routines.len();
+    for i in 0..count {
+        let calls = Calls::of(bytes, routines, routines.get(i).at);
+        if let Some(head) = calls.unknown {
+            return Err(head);
+        }
+        let marks = calls.marks;
+        rows[i] = marks;
+    }
+    Ok(rows)
+}
+
+// The first routine that reaches itself.
+fn first_cycle(rows: &[[bool; 256]; 32], routines: &Heads) -> Option<Head>
+    ensures { result ≡ cycle_from (entry rows.now) 0 (held routines.now) }
+{
+    let count = routines.len();
+    for i in 0..count {
+        let head = routines.get(i);
+        if rows[i][head.code as usize] {
+            return Some(head);
+        }
+    }
+    None
+}
+
+// The first routine that costs more than 1,000,000 ticks.
+fn first_dear(costs: &[u32; 256], routines: &Heads) -> Option<Head>
+    ensures { result ≡ dear_from (cost_of_code costs.now) (held routines.now) }
+{
+    let count = routines.len();
+    for i in 0..count {
+        let head = routines.get(i);
+        if costs[head.code as usize] > 1_000_000 {
+            return Some(head);
+        }
+    }
+    None
+}
+
+// What the routine at an offset costs, at most 1,000,001, where the called ones cost what the table says.
+fn routine_cost(bytes: &[u8], costs: &[u32; 256], at: usize) -> u32
+    ensures { (e : Ended) → run_at 9 bytes.now at (after Top bytes.now at) ≡ Ok e → result ≡ min (run_cost (cost_of_code costs.now) e.run) 1000001 }
+{
+    let mut reader = Reader { bytes, at };
+    let _ = reader.next(Context::Top);
+    match cost_run(&mut reader, costs, at, 9) {
+        Ok(ran) => ran.cost,
+        Err(_) => 0,
     }
 }
 
-// The first fault of those found: an unknown routine, in a call or else in a block, then a cycle, then a routine too dear.
-fn judge(
-    call: Option<Head>,
-    block: Option<Head>,
-    cycle: Option<Head>,
-    dear: Option<Head>,
-) -> Result<(), CostFault>
-    ensures { result ≡ in_order (option_or call block) cycle dear (Ok tt) }
+// One pass: what each routine costs, by the costs of the pass before.
+fn pass_costs(bytes: &[u8], routines: &Heads, costs: &[u32; 256]) -> [u32; 256]
+    ensures { (rs : List Routine) → held routines.now ≡ map routine_head rs → AllByRecursion (BodyRead bytes.now) rs → Capped result (cost_by (cost_of_code costs.now) rs) }
 {
-    if let Some(head) = call.or(block) {
-        return Err(CostFault::Unknown {
-            at: head.at,
-            code: head.code,
-        });
+    let mut next = [0u32; 256];
+    let mut i = routines.len();
+    while i > 0 {
+        i -= 1;
+        let head = routines.get(i);
+        next[head.code as usize] = routine_cost(bytes, costs, head.at);
     }
-    if let Some(head) = cycle {
-        return Err(CostFault::Cycle {
-            at: head.at,
-            routine: head.code,
-        });
+    next
+}
+
+// What each routine costs after 32 passes.
+fn settled(bytes: &[u8], routines: &Heads) -> [u32; 256]
+    ensures { (rs : List Routine) → held routines.now ≡ map routine_head rs → AllByRecursion (BodyRead bytes.now) rs → Capped result (cost_in rs 32) }
+{
+    let mut costs = [0u32; 256];
+    for turn in 0..32usize {
+        costs = pass_costs(bytes, routines, &costs);
     }
-    if let Some(head) = dear {
-        return Err(CostFault::TooDear {
-            at: head.at,
-            routine: head.code,
-        });
-    }
-    Ok(())
+    costs
 }
 
 // What costing finds: the outline of a listing, and what each routine costs, by its code.
@@ -68,27 +116,46 @@ pub struct Costs {
     pub by_code: [u32; 256],
 }
 
-// Reads a listing and costs its routines.
+// Reads a listing and costs its routines: a call of an unknown routine comes first, then a cycle, then a routine too dear.
 pub fn cost(bytes: &[u8]) -> Result<Costs, CostFault>
     ensures told { cost_told result ≡ costs_of (costing bytes.now) }
     ensures cycles { CycleTold bytes.now result }
-    ensures places { PlaceTold bytes.now result }
 {
     let outline = read(bytes)?;
-    let routines = outline.routines.as_slice();
-    let calls = call_table(bytes, routines);
-    let block = unknown_block(bytes, routines, outline.tasks.as_slice());
-    let rows = reached(&calls.rows, routines);
-    let cycle = first_cycle(&rows, routines);
-    let by_code = settled(bytes, routines);
-    let dear = first_dear(&by_code, routines);
-    judge(calls.unknown, block, cycle, dear)?;
+    let calls = match call_table(bytes, &outline.routines) {
+        Ok(rows) => rows,
+        Err(head) => return Err(CostFault::Unknown {
+            at: head.at,
+            code: head.code,
+        }),
+    };
+    let strange = unlisted(&outline.routines);
+    if let Some((_, block)) = marked_block(bytes, &outline.tasks, &strange) {
+        return Err(CostFault::Unknown {
+            at: block.at,
+            code: block.code,
+        });
+    }
+    let rows = reached(&calls, &outline.routines);
+    if let Some(head) = first_cycle(&rows, &outline.routines) {
+        return Err(CostFault::Cycle {
+            at: head.at,
+            routine: head.code,
+        });
+    }
+    let by_code = settled(bytes, &outline.routines);
+    if let Some(head) = first_dear(&by_code, &outline.routines) {
+        return Err(CostFault::TooDear {
+            at: head.at,
+            routine: head.code,
+        });
+    }
     Ok(Costs { outline, by_code })
 }
 
-// What an either of work 5 and work 9, and then work 1, costs; and what it costs when it is repeated 3 times.
-pub fn worked_costs() -> (u32, u32)
-    ensures { Worked result.0 result.1 }
+// Two worked costs, as a fact over the definitions.
+pub fn worked_costs() -> u8
+    ensures { Worked }
 {
-    (10, 30)
+    0
 }

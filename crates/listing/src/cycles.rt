@@ -1,9 +1,9 @@
 // The codes that routines reach by calls, at once or through others.
-ghost use Rattle.std.specs.Prelude.{◌≡◌, ◌<◌, ◌≤◌, false, ◌||◌, length, slice_index_or};
-ghost use Rattle.listing.specs.Costing.{cycle_from};
+ghost use Rattle.std.specs.Prelude.{◌≡◌, ℕ, ◌+◌, ◌<◌, ◌≤◌, true, false, ◌&&◌, ◌||◌, [], ◌∷◌, length, slice_index_or};
+ghost use Rattle.reading.specs.Heads.{held};
 ghost use Rattle.listing.specs.Cycles.{entry, through, closed, code_at, Tabled, RowSays, Wide};
 
-use reading::heads::Head;
+use reading::heads::Heads;
 
 fn joined(a: &[bool; 256], b: &[bool; 256]) -> [bool; 256]
     ensures { RowSays result (λ c. slice_index_or a.now c false || slice_index_or b.now c false) }
@@ -41,26 +41,14 @@ fn pass(rows: &[[bool; 256]; 32], k: usize, code: u8) -> [[bool; 256]; 32]
 }
 
 // The codes that each routine reaches, from those that it calls.
-pub(crate) fn reached(calls: &[[bool; 256]; 32], routines: &[Head]) -> [[bool; 256]; 32]
-    requires { (length routines.now ≤ 32) × (Wide calls.now) }
-    ensures { Tabled result (closed (entry calls.now) (code_at routines.now) (length routines.now)) }
+pub(crate) fn reached(calls: &[[bool; 256]; 32], routines: &Heads) -> [[bool; 256]; 32]
+    requires { Wide calls.now }
+    ensures { Tabled result (closed (entry calls.now) (code_at (held routines.now)) (length (held routines.now))) }
 {
     let mut rows = *calls;
-    for (k, head) in routines.iter().enumerate() {
-        rows = pass(&rows, k, head.code);
+    let count = routines.len();
+    for k in 0..count {
+        rows = pass(&rows, k, routines.get(k).code);
     }
     rows
-}
-
-// The first routine that reaches itself.
-pub(crate) fn first_cycle(rows: &[[bool; 256]; 32], routines: &[Head]) -> Option<Head>
-    requires { (length routines.now ≤ 32) × (Wide rows.now) }
-    ensures { result ≡ cycle_from (entry rows.now) 0 routines.now }
-{
-    for (i, head) in routines.iter().enumerate() {
-        if rows[i][head.code as usize] {
-            return Some(*head);
-        }
-    }
-    None
 }

@@ -7,4 +7,3 @@ pub mod cost;
 pub mod cycles;
 pub mod load;
 pub mod parts;
-pub mod passes;

@@ -1,10 +1,11 @@
 // Loading: the tasks of a listing, each block at its routine's cost.
-ghost use Rattle.std.specs.Prelude.{◌≡◌, ℕ, suc, ◌<◌, List, map, length, Ok, nat_eq};
+ghost use Rattle.std.specs.Prelude.{◌≡◌, ℕ, suc, ◌+◌, ◌<◌, ◌≤◌, List, map, length, Ok, nat_eq};
 ghost use Rattle.reading.specs.Listings.{blocks_from, task_head};
 ghost use Rattle.listing.specs.Loading.{Priced, BodyTold, TaskTold, TasksTold, LoadTold};
 ghost use Rattle.std.specs.List.{AllByRecursion};
 ghost use Rattle.reading.specs.Bodies.{TaskRead};
 ghost use Rattle.listing.specs.Cycles.{RowSays};
+ghost use Rattle.reading.specs.Heads.{held};
 ghost use Rattle.reading.specs.Runs.{cost_of_code};
 ghost use Rattle.reading.specs.Trees.{Blocks, Task as TreeTask};
 
@@ -13,7 +14,7 @@ use crate::cost::cost;
 use crate::parts::Parts;
 use commands::reader::Reader;
 use faults::fault::{CostFault, LoadFault, ReadFault};
-use reading::heads::Head;
+use reading::heads::Heads;
 use std::alloc::Global;
 use tasks::blocks::Block;
 use tasks::model::Task;
@@ -87,13 +88,14 @@ fn load_tasks(
     heap: Global,
     bytes: &[u8],
     costs: &[u32; 256],
-    tasks: &[Head],
+    tasks: &Heads,
 ) -> Result<Vec<Task>, LoadFault>
-    ensures { (ts : List TreeTask) → tasks.now ≡ map task_head ts → AllByRecursion (TaskRead bytes.now) ts → AllByRecursion (λ (t : TreeTask). Priced (cost_of_code costs.now) t.blocks) ts → TasksTold (cost_of_code costs.now) ts result }
+    ensures { (ts : List TreeTask) → held tasks.now ≡ map task_head ts → AllByRecursion (TaskRead bytes.now) ts → AllByRecursion (λ (t : TreeTask). Priced (cost_of_code costs.now) t.blocks) ts → TasksTold (cost_of_code costs.now) ts result }
 {
     let mut loaded = Vec::new(heap);
-    for head in tasks {
-        let task = load_task(heap, bytes, costs, head.at)?;
+    let count = tasks.len();
+    for i in 0..count {
+        let task = load_task(heap, bytes, costs, tasks.get(i).at)?;
         loaded.push(task)?;
     }
     Ok(loaded)
@@ -104,13 +106,13 @@ pub fn load(heap: Global, bytes: &[u8]) -> Result<Vec<Task>, LoadFault>
     ensures { LoadTold bytes.now result }
 {
     let costs = cost(bytes)?;
-    let tasks = costs.outline.tasks.as_slice();
-    let free = free_marks(&costs.by_code);
-    if let Some((task, block)) = marked_block(bytes, tasks, &free) {
+    let by_code = costs.by_code;
+    let free = free_marks(&by_code);
+    if let Some((task, block)) = marked_block(bytes, &costs.outline.tasks, &free) {
         return Err(LoadFault::FreeBlock {
             at: block.at,
             task: task.code,
         });
     }
-    load_tasks(heap, bytes, &costs.by_code, tasks)
+    load_tasks(heap, bytes, &by_code, &costs.outline.tasks)
 }

@@ -1,5 +1,4 @@
-// Loads listings, each on a line with a name, a colon and its bytes in hexadecimal, and prints what each is: its tasks, or the
-// refusal.
+// Loads listings that are written in hexadecimal, one on a line, and prints what each is: its tasks, or the refusal.
 #![tactic(auto)]
 
 use faults::fault::LoadFault;
@@ -61,12 +60,8 @@ fn show_fault(rt: &HostRuntime, fault: LoadFault) -> anyhow::Result<()> {
     Ok(())
 }
 
-fn show(rt: &HostRuntime, line: &str) -> anyhow::Result<()> {
-    let mut parts = line.split(':');
-    let name = parts.next().unwrap_or("");
-    let digits = parts.next().unwrap_or("");
-    print!(rt; "{name}: ")?;
-    let bytes = bytes_of(rt.alloc(), digits.as_bytes())?;
+fn show(rt: &HostRuntime, line: &[u8]) -> anyhow::Result<()> {
+    let bytes = bytes_of(rt.alloc(), line)?;
     match load(rt.alloc(), bytes.as_slice()) {
         Ok(tasks) => {
             let count = tasks.len();
@@ -83,7 +78,7 @@ fn show(rt: &HostRuntime, line: &str) -> anyhow::Result<()> {
 
 fn run(rt: &HostRuntime) -> anyhow::Result<()> {
     for line in rt.lines(rt.alloc()) {
-        show(rt, line?.as_str())?;
+        show(rt, line?.as_bytes())?;
     }
     Ok(())
 }

@@ -1,6 +1,6 @@
 // What is asked of codes and offsets, and how one is added.
-ghost use Rattle.std.specs.Prelude.{◌≡◌, ◌+◌, ◌<◌, ◌≤◌, [], ◌∷◌, ◌++◌, length};
-ghost use Rattle.reading.specs.Heads.{held, used};
+ghost use Rattle.std.specs.Prelude.{◌≡◌, ◌+◌, ◌<◌, ◌≤◌, [], ◌∷◌, ◌++◌, length, slice_index_or};
+ghost use Rattle.reading.specs.Heads.{head, held, used};
 
 use super::{Head, Heads};
 
@@ -22,15 +22,24 @@ impl Heads {
         &self.heads[0..self.count]
     }
 
-    pub(crate) fn len(&self) -> usize
+    pub fn len(&self) -> usize
         ensures is { result ≡ length (held self.now) }
         ensures few { result ≤ 32 }
     {
-        self.count
+        let count = self.count;
+        count
+    }
+
+    // The one at an index.
+    pub fn get(&self, i: usize) -> Head
+        requires { i < length (held self.now) }
+        ensures { result ≡ slice_index_or (held self.now) i (head 0 0) }
+    {
+        self.heads[i]
     }
 
     // Is a code among them?
-    pub(crate) fn contains(&self, code: u8) -> bool
+    pub fn contains(&self, code: u8) -> bool
         ensures { result ≡ used code (held self.now) }
     {
         listed(self.as_slice(), code)

@@ -1,31 +1,35 @@
-use Rattle.std.proofs.Common.{subst}
+use Rattle.std.proofs.Common.{Ok, Err}
 use Rattle.std.proofs.lemmas.Result.{err_from_is_err_and}
-use Rattle.listing.proofs.Costed.{Outlined, outlined, read_fault, JudgedTold, judged-told}
+use Rattle.faults.specs.declared.fault.CostFault.TheVariants.{Unknown, Cycle, TooDear}
+use Rattle.listing.proofs.Costed.{outlined, read_fault, call-told, block-told, cycle_told, dear_told, all_told, both}
 use Rattle.listing.proofs.cost.cost.Goals as goal
-use Rattle.listing.proofs.cost.cost.Goals.{After-judge, at-returns, at-returns-in_err-judge}
 
 pub returns-in_err-outline : goal.returns-in_err-outline
 returns-in_err-outline c =
     let p = err_from_is_err_and c.from_residual.result c.from_residual.ensures.1 in
-    rw (p.1, p.2) (record { told = read_fault _ _ c.in_err-outline.ensures.told; cycles = tt; places = tt })
+    rw (p.1, p.2) (record { told = read_fault _ _ c.in_err-outline.ensures.told; cycles = tt })
 
--- what the judgement tells
-judgement : (c : After-judge) → JudgedTold c.args.bytes.now c.in_ok-outline.outline c.settled-by_code.result c.judge.result
-judgement c =
-    let bs = c.args.bytes.now in
-    let o = c.in_ok-outline.outline in
-    let hs = c.as_slice-routines.result.now in
-    let ks = c.as_slice.result.now in
-    let x : Outlined bs hs ks = outlined bs o hs ks c.as_slice-routines.ensures.is c.as_slice.ensures.is c.in_ok-outline.ensures.told in
-    judged-told bs hs ks x c.as_slice-routines.ensures.few c.call_table-calls.result.rows c.reached-rows.result c.settled-by_code.result c.call_table-calls.result.unknown c.unknown_block-block.result c.first_cycle-cycle.result c.first_dear-dear.result c.call_table-calls.ensures.rows c.call_table-calls.ensures.unknown c.unknown_block-block.ensures c.reached-rows.ensures c.first_cycle-cycle.ensures c.settled-by_code.ensures c.first_dear-dear.ensures o c.as_slice-routines.ensures.is c.as_slice.ensures.is c.judge.result c.judge.ensures
+pub returns-in-Err : goal.returns-in-Err
+returns-in-Err c =
+    let b = both c.args.bytes.now c.in_ok-outline.outline (outlined c.args.bytes.now c.in_ok-outline.outline c.in_ok-outline.ensures.told) (Err (Unknown c.in-Err.head.at c.in-Err.head.code)) (call-told c.args.bytes.now c.in_ok-outline.outline (outlined c.args.bytes.now c.in_ok-outline.outline c.in_ok-outline.ensures.told) c.in-Err.head c.in-Err.ensures) in
+    record { told = b.0; cycles = b.1 }
 
-pub returns-in_err-judge : goal.returns-in_err-judge
-returns-in_err-judge c =
-    let p = err_from_is_err_and c.from_residual-in_err-judge.result c.from_residual-in_err-judge.ensures.1 in
-    let b = subst (JudgedTold c.args.bytes.now c.in_ok-outline.outline c.settled-by_code.result) c.in_err-judge.was (judgement (at-returns-in_err-judge c).After-judge) in
-    rw (p.1, p.2) (record { told = b.0; cycles = b.1; places = b.2 })
+pub returns-in-Some : goal.returns-in-Some
+returns-in-Some c =
+    let b = both c.args.bytes.now c.in_ok-outline.outline (outlined c.args.bytes.now c.in_ok-outline.outline c.in_ok-outline.ensures.told) (Err (Unknown c.in-Some.block.at c.in-Some.block.code)) (block-told c.args.bytes.now c.in_ok-outline.outline (outlined c.args.bytes.now c.in_ok-outline.outline c.in_ok-outline.ensures.told) c.in-Ok.rows c.in-Ok.ensures c.unlisted-strange.result c.unlisted-strange.ensures (c.in-Some.field-0-0, c.in-Some.block) c.in-Some.ensures) in
+    record { told = b.0; cycles = b.1 }
+
+pub returns-in-Some-first_cycle : goal.returns-in-Some-first_cycle
+returns-in-Some-first_cycle c =
+    let b = both c.args.bytes.now c.in_ok-outline.outline (outlined c.args.bytes.now c.in_ok-outline.outline c.in_ok-outline.ensures.told) (Err (Cycle c.in-Some-first_cycle.head.at c.in-Some-first_cycle.head.code)) (cycle_told c.args.bytes.now c.in_ok-outline.outline (outlined c.args.bytes.now c.in_ok-outline.outline c.in_ok-outline.ensures.told) c.in-Ok.rows c.in-Ok.ensures c.unlisted-strange.result c.unlisted-strange.ensures c.in_default.ensures c.reached-rows.result c.reached-rows.ensures c.in-Some-first_cycle.head c.in-Some-first_cycle.ensures) in
+    record { told = b.0; cycles = b.1 }
+
+pub returns-in-Some-first_dear : goal.returns-in-Some-first_dear
+returns-in-Some-first_dear c =
+    let b = both c.args.bytes.now c.in_ok-outline.outline (outlined c.args.bytes.now c.in_ok-outline.outline c.in_ok-outline.ensures.told) (Err (TooDear c.in-Some-first_dear.head.at c.in-Some-first_dear.head.code)) (dear_told c.args.bytes.now c.in_ok-outline.outline (outlined c.args.bytes.now c.in_ok-outline.outline c.in_ok-outline.ensures.told) c.in-Ok.rows c.in-Ok.ensures c.unlisted-strange.result c.unlisted-strange.ensures c.in_default.ensures c.reached-rows.result c.reached-rows.ensures c.in_default-first_cycle.ensures c.settled-by_code.result c.settled-by_code.ensures c.in-Some-first_dear.head c.in-Some-first_dear.ensures) in
+    record { told = b.0; cycles = b.1 }
 
 pub returns : goal.returns
 returns c =
-    let b = subst (JudgedTold c.args.bytes.now c.in_ok-outline.outline c.settled-by_code.result) c.in_ok-judge.was (judgement (at-returns c).After-judge) in
-    record { told = b.0; cycles = b.1; places = b.2 }
+    let b = both c.args.bytes.now c.in_ok-outline.outline (outlined c.args.bytes.now c.in_ok-outline.outline c.in_ok-outline.ensures.told) (Ok (record { outline = c.in_ok-outline.outline; by_code = c.settled-by_code.result })) (all_told c.args.bytes.now c.in_ok-outline.outline (outlined c.args.bytes.now c.in_ok-outline.outline c.in_ok-outline.ensures.told) c.in-Ok.rows c.in-Ok.ensures c.unlisted-strange.result c.unlisted-strange.ensures c.in_default.ensures c.reached-rows.result c.reached-rows.ensures c.in_default-first_cycle.ensures c.settled-by_code.result c.settled-by_code.ensures c.in_default-first_dear.ensures) in
+    record { told = b.0; cycles = b.1 }

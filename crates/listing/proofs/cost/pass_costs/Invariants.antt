@@ -3,13 +3,14 @@ use Rattle.std.specs.List.{AllByRecursion}
 use Rattle.reading.specs.Bodies.{BodyRead}
 use Rattle.listing.specs.Costing.{Capped}
 use Rattle.listing.specs.Costing.{cost_by}
+use Rattle.reading.specs.Heads.{held}
 use Rattle.reading.specs.Listings.{routine_head}
 use Rattle.reading.specs.Runs.{cost_of_code}
 use Rattle.reading.specs.Trees.{Routine}
-use Rattle.listing.proofs.passes.pass_costs.Given as goal
+use Rattle.listing.proofs.cost.pass_costs.Given as goal
 
 abbrev pub invariant-loop-i : goal.invariant-loop-i
-invariant-loop-i l = (l.i ≤ length l.routines) × ((rs : List Routine) → l.routines ≡ map routine_head rs → AllByRecursion (BodyRead l.bytes) rs → Capped l.next (cost_by (cost_of_code l.costs) (drop l.i rs)))
+invariant-loop-i l = (l.i ≤ length (held l.routines)) × ((rs : List Routine) → held l.routines ≡ map routine_head rs → AllByRecursion (BodyRead l.bytes) rs → Capped l.next (cost_by (cost_of_code l.costs) (drop l.i rs)))
 
 abbrev pub decreases-loop-i : goal.decreases-loop-i
 decreases-loop-i l = l.i

@@ -1,5 +1,5 @@
-use Rattle.listing.proofs.Passed.{first-costs, pass_more}
-use Rattle.listing.proofs.passes.settled.Goals as goal
+use Rattle.listing.proofs.Passes.{first-costs, pass_more}
+use Rattle.listing.proofs.cost.settled.Goals as goal
 
 pub loop-turn-init : goal.loop-turn-init
 loop-turn-init c rs e all = first-costs rs
