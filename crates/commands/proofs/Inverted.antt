@@ -22,8 +22,8 @@ pub record Written (context : Context) (bs : List ℕ) (c : Command) (n : ℕ) :
   pub command_is : command_of row.kind (numbers_of row rest) ≡ c
   pub size_is : 1 + width_of row ≡ n
 
-by-numbers : (context : Context) (byte : ℕ) (rest : List ℕ) (row : Row) (c : Command) (n : ℕ) → row_in context byte ≡ Some row → width_of row ≤ length rest → front_of_numbers row (numbers_of row rest) ≡ a c n → Written context (byte ∷ rest) c n
-by-numbers context byte rest row c n is enough e =
+by_numbers : (context : Context) (byte : ℕ) (rest : List ℕ) (row : Row) (c : Command) (n : ℕ) → row_in context byte ≡ Some row → width_of row ≤ length rest → front_of_numbers row (numbers_of row rest) ≡ a c n → Written context (byte ∷ rest) c n
+by_numbers context byte rest row c n is enough e =
     ⊎_elim
     (λ good.
     let f : a (command_of row.kind (numbers_of row rest)) (1 + width_of row) ≡ a c n = sym (cond-true _ _ _ good) ∙ e in
@@ -36,7 +36,7 @@ by_row context byte rest None c n is e = let z : ◌≡◌ {A = ℕ} 0 1 = cc in
 by_row context byte rest (Some row) c n is e =
     ⊎_elim
     (λ cut. let f : short ≡ a c n = sym (cond-true _ _ _ cut) ∙ e in let z : ◌≡◌ {A = ℕ} 0 1 = cc in absurd (omega arith))
-    (λ whole. by-numbers context byte rest row c n is (ltb-false _ _ whole) (sym (cond-false _ _ _ whole) ∙ e))
+    (λ whole. by_numbers context byte rest row c n is (ltb-false _ _ whole) (sym (cond-false _ _ _ whole) ∙ e))
     (cases_Bool (ltb (length rest) (width_of row)))
 
 pub written : (context : Context) (bs : List ℕ) (c : Command) (n : ℕ) → decode context bs ≡ a c n → Written context bs c n
@@ -51,9 +51,9 @@ front_by range p at c e = let z : ◌≡◌ {A = ℕ} 0 1 = cc in absurd (omega 
 front_by (a k n) p at c e = let both : (p, k) ≡ (at, c) = cc in (n, ap (λ x. a x n) (ap (λ (x : ℕ × Command). x.1) both), refl)
 
 -- a command that is read at a place, in the bytes from there on, and the place after it
-pub read-written : (context : Context) (bs : List ℕ) (p at : ℕ) (c : Command) → answer context bs p ≡ Ok (Some (at, c)) → (n : ℕ) × Written context (drop p bs) c n × (after context bs p ≡ p + n)
+pub read_written : (context : Context) (bs : List ℕ) (p at : ℕ) (c : Command) → answer context bs p ≡ Ok (Some (at, c)) → (n : ℕ) × Written context (drop p bs) c n × (after context bs p ≡ p + n)
 unfolding answer after
-read-written context bs p at c e =
+read_written context bs p at c e =
     let f = front_by (decode context (drop p bs)) p at c e in
     (f.0, written context (drop p bs) c f.0 f.1, f.2)
 
@@ -76,7 +76,7 @@ routine_kind kind.Sheet n c e h = let z : ◌≡◌ {A = ℕ} 0 1 = cc in absurd
 
 pub small_routine : (context : Context) (bs : List ℕ) (p at c : ℕ) → answer context bs p ≡ Ok (Some (at, command.Routine c)) → c < 256
 small_routine context bs p at c e =
-    let w = read-written context bs p at (command.Routine c) e in
+    let w = read_written context bs p at (command.Routine c) e in
     let x : Written context (drop p bs) (command.Routine c) w.0 = w.1 in
     routine_kind x.row.kind (numbers_of x.row x.rest) c x.command_is (ranged context x.byte x.row x.row_is (numbers_of x.row x.rest) x.fits).first
 
@@ -96,9 +96,9 @@ block_kind kind.Point n c e h = let z : ◌≡◌ {A = ℕ} 0 1 = cc in absurd (
 block_kind kind.EndTask n c e h = let z : ◌≡◌ {A = ℕ} 0 1 = cc in absurd (omega arith)
 block_kind kind.Sheet n c e h = let z : ◌≡◌ {A = ℕ} 0 1 = cc in absurd (omega arith)
 
-pub small-block : (context : Context) (bs : List ℕ) (p at c : ℕ) → answer context bs p ≡ Ok (Some (at, command.Block c)) → c < 256
-small-block context bs p at c e =
-    let w = read-written context bs p at (command.Block c) e in
+pub small_block : (context : Context) (bs : List ℕ) (p at c : ℕ) → answer context bs p ≡ Ok (Some (at, command.Block c)) → c < 256
+small_block context bs p at c e =
+    let w = read_written context bs p at (command.Block c) e in
     let x : Written context (drop p bs) (command.Block c) w.0 = w.1 in
     block_kind x.row.kind (numbers_of x.row x.rest) c x.command_is (ranged context x.byte x.row x.row_is (numbers_of x.row x.rest) x.fits).first
 
@@ -113,7 +113,7 @@ task_kind kind.EndEither n c p d e r = let z : ◌≡◌ {A = ℕ} 0 1 = cc in a
 task_kind kind.Repeat n c p d e r = let z : ◌≡◌ {A = ℕ} 0 1 = cc in absurd (omega arith)
 task_kind kind.EndRepeat n c p d e r = let z : ◌≡◌ {A = ℕ} 0 1 = cc in absurd (omega arith)
 task_kind kind.EndRoutine n c p d e r = let z : ◌≡◌ {A = ℕ} 0 1 = cc in absurd (omega arith)
-task_kind kind.Task n c p d e r = let x : n.second ≡ p = cc in let y : n.third ≡ d = cc in (omega (arith, r.least-second), omega (arith, r.second), omega (arith, r.least-third), omega (arith, r.rising))
+task_kind kind.Task n c p d e r = let x : n.second ≡ p = cc in let y : n.third ≡ d = cc in (omega (arith, r.second_at_least), omega (arith, r.second), omega (arith, r.third_at_least), omega (arith, r.rising))
 task_kind kind.Block n c p d e r = let z : ◌≡◌ {A = ℕ} 0 1 = cc in absurd (omega arith)
 task_kind kind.Point n c p d e r = let z : ◌≡◌ {A = ℕ} 0 1 = cc in absurd (omega arith)
 task_kind kind.EndTask n c p d e r = let z : ◌≡◌ {A = ℕ} 0 1 = cc in absurd (omega arith)
@@ -121,7 +121,7 @@ task_kind kind.Sheet n c p d e r = let z : ◌≡◌ {A = ℕ} 0 1 = cc in absur
 
 pub task_ranges : (context : Context) (bs : List ℕ) (q at c p d : ℕ) → answer context bs q ≡ Ok (Some (at, command.Task c p d)) → (10 ≤ p) × (p ≤ 1000000) × (1 ≤ d) × (d ≤ p)
 task_ranges context bs q at c p d e =
-    let w = read-written context bs q at (command.Task c p d) e in
+    let w = read_written context bs q at (command.Task c p d) e in
     let x : Written context (drop q bs) (command.Task c p d) w.0 = w.1 in
     task_kind x.row.kind (numbers_of x.row x.rest) c p d x.command_is (ranged context x.byte x.row x.row_is (numbers_of x.row x.rest) x.fits)
 
@@ -141,8 +141,8 @@ point_kind kind.Point n t q e r = let x : n.first ≡ t = cc in omega (arith, r.
 point_kind kind.EndTask n t q e r = let z : ◌≡◌ {A = ℕ} 0 1 = cc in absurd (omega arith)
 point_kind kind.Sheet n t q e r = let z : ◌≡◌ {A = ℕ} 0 1 = cc in absurd (omega arith)
 
-pub point-ranges : (context : Context) (bs : List ℕ) (p at t q : ℕ) → answer context bs p ≡ Ok (Some (at, command.Point t q)) → t ≤ 1000000
-point-ranges context bs p at t q e =
-    let w = read-written context bs p at (command.Point t q) e in
+pub point_ranges : (context : Context) (bs : List ℕ) (p at t q : ℕ) → answer context bs p ≡ Ok (Some (at, command.Point t q)) → t ≤ 1000000
+point_ranges context bs p at t q e =
+    let w = read_written context bs p at (command.Point t q) e in
     let x : Written context (drop p bs) (command.Point t q) w.0 = w.1 in
     point_kind x.row.kind (numbers_of x.row x.rest) t q x.command_is (ranged context x.byte x.row x.row_is (numbers_of x.row x.rest) x.fits)

@@ -42,9 +42,9 @@ by_row context (Some x) r e =
     (cases_Bool (allows x.kind context))
 
 -- an allowed row is a row of the table
-pub allowed-row : (context : Context) (b : ℕ) (r : Row) → row_in context b ≡ Some r → row_of rows b ≡ Some r
+pub allowed_row : (context : Context) (b : ℕ) (r : Row) → row_in context b ≡ Some r → row_of rows b ≡ Some r
 unfolding row_in
-allowed-row context b r e = by_row context (row_of rows b) r e
+allowed_row context b r e = by_row context (row_of rows b) r e
 
 -- the least second and third operands of a kind
 abbrev pub least_second : Kind → ℕ
@@ -102,19 +102,19 @@ four a b c d h =
 pub record Ranged (k : Kind) (n : Numbers) : Type 0 where
   pub first : n.first ≤ top k
   pub second : n.second ≤ top_second k
-  pub least-second : least_second k ≤ n.second
-  pub least-third : least_third k ≤ n.third
+  pub second_at_least : least_second k ≤ n.second
+  pub third_at_least : least_third k ≤ n.third
   pub rising : n.third ≤ n.second
 
 module _ (context : Context) (b : ℕ) (r : Row) (e : row_in context b ≡ Some r) where
   pub narrow : Narrow r
   narrow =
-      let p = three (leb r.first.width 4) (leb r.second.width 4) (leb r.third.width 4) (found narrows rows b r refl (allowed-row context b r e)) in
+      let p = three (leb r.first.width 4) (leb r.second.width 4) (leb r.third.width 4) (found narrows rows b r refl (allowed_row context b r e)) in
       (leb-true _ _ p.0, leb-true _ _ p.1, leb-true _ _ p.2)
 
   pub ranged : (n : Numbers) → within r n ≡ true → Ranged r.kind n
   ranged n h =
-      let p = four (leb r.first.top (top r.kind)) (leb r.second.top (top_second r.kind)) (leb (least_second r.kind) r.second.low) (leb (least_third r.kind) r.third.low) (found ranges rows b r refl (allowed-row context b r e)) in
+      let p = four (leb r.first.top (top r.kind)) (leb r.second.top (top_second r.kind)) (leb (least_second r.kind) r.second.low) (leb (least_third r.kind) r.third.low) (found ranges rows b r refl (allowed_row context b r e)) in
       let q = four (holds r.first n.first) (holds r.second n.second) (holds r.third n.third) (leb n.third n.second) h in
       let x = and_parts (leb r.first.low n.first) (leb n.first r.first.top) q.0 in
       let y = and_parts (leb r.second.low n.second) (leb n.second r.second.top) q.1 in
@@ -122,7 +122,7 @@ module _ (context : Context) (b : ℕ) (r : Row) (e : row_in context b ≡ Some 
       record {
         first = omega (arith, leb-true _ _ x.1, leb-true _ _ p.0);
         second = omega (arith, leb-true _ _ y.1, leb-true _ _ p.1);
-        least-second = omega (arith, leb-true _ _ y.0, leb-true _ _ p.2);
-        least-third = omega (arith, leb-true _ _ z.0, leb-true _ _ p.3);
+        second_at_least = omega (arith, leb-true _ _ y.0, leb-true _ _ p.2);
+        third_at_least = omega (arith, leb-true _ _ z.0, leb-true _ _ p.3);
         rising = leb-true _ _ q.3;
       }

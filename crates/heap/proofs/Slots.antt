@@ -11,13 +11,13 @@ use Rattle.heap.specs.Heaps.{HeapedWithin, Heaped}
 use Rattle.heap.specs.Held.{first}
 
 -- a heap stays one where its items stay
-pub heaped-kept : {X : Type 0} (before : X → X → Bool) (xs ys : List X) (low end : ℕ) → end ≤ length xs → ((i : ℕ) (d : X) → low ≤ i → i < end → get_or ys i d ≡ get_or xs i d) → Heaped before xs → HeapedWithin before ys low end
+pub heaped_kept : {X : Type 0} (before : X → X → Bool) (xs ys : List X) (low end : ℕ) → end ≤ length xs → ((i : ℕ) (d : X) → low ≤ i → i < end → get_or ys i d ≡ get_or xs i d) → Heaped before xs → HeapedWithin before ys low end
 unfolding HeapedWithin
-heaped-kept before xs ys low end within same h = λ p k d l a b f. (λ z. before (same k d (omega arith) f z) (same p d l (omega arith) z)) ∙ h p k d (omega arith) a b (omega arith)
+heaped_kept before xs ys low end within same h = λ p k d l a b f. (λ z. before (same k d (omega arith) f z) (same p d l (omega arith) z)) ∙ h p k d (omega arith) a b (omega arith)
 
 -- x stands in the first of the n slots in use
-pub top-is : {X : Type 0} (xs : List X) (n : ℕ) (x : X) → 0 < n → n ≤ length xs → x ≡ get_or xs 0 x → Some x ≡ first (take n xs)
-top-is xs n x some within e = let long = length-take-le n xs within in ap Some (e ∙ sym (get_or-take n xs 0 x some)) ∙ sym (ap first (drop_more (take n xs) 0 x (omega arith)))
+pub top_is : {X : Type 0} (xs : List X) (n : ℕ) (x : X) → 0 < n → n ≤ length xs → x ≡ get_or xs 0 x → Some x ≡ first (take n xs)
+top_is xs n x some within e = let long = length-take-le n xs within in ap Some (e ∙ sym (get_or-take n xs 0 x some)) ∙ sym (ap first (drop_more (take n xs) 0 x (omega arith)))
 
 -- the first k slots are sifted
 module _ {X : Type 0} (ys zs : List X) (k n : ℕ) (e : k ≡ n) (within : n ≤ length ys) (s : IsPermutation (take k ys) zs) where
@@ -38,7 +38,7 @@ module _ {X : Type 0} (xs : List X) (n : ℕ) (x : X) (some : n < length xs) whe
   pub push_heaped : (before : X → X → Bool) (k : ℕ) → k ≡ n + 1 → Heaped before (take n xs) → HeapedWithin before (take k (set xs n x)) 0 (length (take k (set xs n x)) - 1)
   push_heaped before k e =
       let long : length (take k (set xs n x)) ≡ n + 1 = length-take-le k (set xs n x) (omega (arith, length-set xs n x)) ∙ e in
-      heaped-kept before (take n xs) (take k (set xs n x)) 0 _ (omega (arith, long, length-take-le n xs (omega arith)))
+      heaped_kept before (take n xs) (take k (set xs n x)) 0 _ (omega (arith, long, length-take-le n xs (omega arith)))
       (λ i d _ f. get_or-take k (set xs n x) i d (omega arith) ∙ get_or-set_other xs n i x d (omega (arith, long)) ∙ sym (get_or-take n xs i d (omega (arith, long))))
 
   pub push_held : (zs : List X) → IsPermutation (take (n + 1) (set xs n x)) zs → IsPermutation (x ∷ take n xs) zs
@@ -58,7 +58,7 @@ module _ {X : Type 0} (xs ys : List X) (n m : ℕ) (x : X) (one : n ≡ m + 1) (
   pub pop_heaped : (before : X → X → Bool) (k : ℕ) → k ≡ m → Heaped before (take n xs) → HeapedWithin before (take k ys) 1 (length (take k ys))
   pop_heaped before k e =
       let long : length (take k ys) ≡ m = length-take-le k ys (omega (arith, long_swap)) ∙ e in
-      heaped-kept before (take n xs) (take k ys) 1 _ (omega (arith, long, length-take-le n xs within))
+      heaped_kept before (take n xs) (take k ys) 1 _ (omega (arith, long, length-take-le n xs within))
       (λ i d l f. get_or-take k ys i d (omega arith)
       ∙ ap (λ l. get_or l i d) swap
       ∙ get_or-set_other (set xs 0 (get_or xs m x)) m i (get_or xs 0 x) d (omega (arith, long))
@@ -94,7 +94,7 @@ module _ {X : Type 0} (xs : List X) (n : ℕ) (x y : X) (some : 0 < n) (within :
   pub replace_heaped : (before : X → X → Bool) (k : ℕ) → k ≡ n → Heaped before (take n xs) → HeapedWithin before (take k (set xs 0 x)) 1 (length (take k (set xs 0 x)))
   replace_heaped before k e =
       let long : length (take k (set xs 0 x)) ≡ n = length-take-le k (set xs 0 x) (omega (arith, length-set xs 0 x)) ∙ e in
-      heaped-kept before (take n xs) (take k (set xs 0 x)) 1 _ (omega (arith, long, length-take-le n xs within))
+      heaped_kept before (take n xs) (take k (set xs 0 x)) 1 _ (omega (arith, long, length-take-le n xs within))
       (λ i d l f. get_or-take k (set xs 0 x) i d (omega arith) ∙ get_or-set_other xs 0 i x d (omega arith) ∙ sym (get_or-take n xs i d (omega (arith, long))))
 
   pub replace_held : (zs : List X) → IsPermutation (take n (set xs 0 x)) zs → IsPermutation (x ∷ take n xs) (y ∷ zs)

@@ -24,17 +24,17 @@ module _ {X : Type 0} (before : X → X → Bool) where
   unfolding HeapedWithin
   rising_begins xs n h = record { others = λ p k d a b f u. h p k d (omega arith) a b (omega arith); around = λ p k d a b f g i. absurd (omega arith) }
 
-  rising-ends : (xs : List X) (j n : ℕ) → ((p : ℕ) (d : X) → p * 2 + 1 ≤ j → j ≤ p * 2 + 2 → before (get_or xs j d) (get_or xs p d) ≡ false) → Rising xs j n → HeapedWithin before xs 0 n
+  rising_ends : (xs : List X) (j n : ℕ) → ((p : ℕ) (d : X) → p * 2 + 1 ≤ j → j ≤ p * 2 + 2 → before (get_or xs j d) (get_or xs p d) ≡ false) → Rising xs j n → HeapedWithin before xs 0 n
   unfolding HeapedWithin
-  rising-ends xs j n over h = λ p k d _ a b f. ⊎_elim
+  rising_ends xs j n over h = λ p k d _ a b f. ⊎_elim
       (λ e. along refl (ap (λ m. get_or xs m d) e) (over p d (omega arith) (omega arith)))
       (h.others p k d a b f) (which k j)
 
   pub rising_tops : (xs : List X) (j n : ℕ) → j ≤ 0 → length xs ≡ n → Rising xs j n → Heaped before xs
-  rising_tops xs j n z e h = subst (HeapedWithin before xs 0) (sym e) (rising-ends xs j n (λ p d a b. absurd (omega arith)) h)
+  rising_tops xs j n z e h = subst (HeapedWithin before xs 0) (sym e) (rising_ends xs j n (λ p d a b. absurd (omega arith)) h)
 
   pub rising_rests : (xs : List X) (j n : ℕ) → ((d : X) → false ≡ before (get_or xs j d) (get_or xs ((j - 1) / 2) d)) → length xs ≡ n → Rising xs j n → Heaped before xs
-  rising_rests xs j n t e h = subst (HeapedWithin before xs 0) (sym e) (rising-ends xs j n (λ p d a b. let q : p ≡ (j - 1) / 2 = omega arith in along (ap (λ m. get_or xs m d) q) refl (sym (t d))) h)
+  rising_rests xs j n t e h = subst (HeapedWithin before xs 0) (sym e) (rising_ends xs j n (λ p d a b. let q : p ≡ (j - 1) / 2 = omega arith in along (ap (λ m. get_or xs m d) q) refl (sym (t d))) h)
 
   -- ---- the item at j sinks
 
@@ -117,5 +117,5 @@ module _ {X : Type 0} (before : X → X → Bool) where
     top xs n d h (suc fuel) k a b = ⊎_elim (itself xs 0 k d)
         (λ u. chain _ _ _ (h ((k - 1) / 2) k d (omega arith) (omega arith) (omega arith) b) (top xs n d h fuel ((k - 1) / 2) (omega arith) (omega arith))) (which k 0)
 
-    pub first-least : (xs : List X) (x : X) → x ≡ get_or xs 0 x → Heaped before xs → Least before x xs
-    first-least xs x e h = All-from_get_or (λ y. before y x ≡ false) xs x (λ k b. along e refl (top xs (length xs) x h k k (omega arith) b))
+    pub first_least : (xs : List X) (x : X) → x ≡ get_or xs 0 x → Heaped before xs → Least before x xs
+    first_least xs x e h = All-from_get_or (λ y. before y x ≡ false) xs x (λ k b. along e refl (top xs (length xs) x h k k (omega arith) b))

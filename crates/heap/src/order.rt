@@ -1,7 +1,7 @@
 ghost use Rattle.std.specs.Prelude.{◌≡◌, Bool, true, false, refl, if◌then◌else◌, nat_lt};
 ghost use Rattle.std.specs.declared.cmp.Ordering.TheVariants.{Less, Equal, Greater};
 ghost use Rattle.std.specs.declared.cmp.Ordering.{Ordering};
-ghost use Rattle.heap.specs.Orders.{lexical, nat_lt-asym, nat_lt-chain, lexical-says, lexical-asym, lexical-chain};
+ghost use Rattle.heap.specs.Orders.{lexical, nat_lt_asym, nat_lt_chain, lexical_says, lexical_asym, lexical_chain};
 ghost use Rattle.std.proofs.Common.{rules};
 
 // An `Ord` that is a total order: `before` is what `cmp` decides.
@@ -23,9 +23,9 @@ impl TotalOrder for u32 {
 
     ghost says = { Prim.search rules };
 
-    ghost asym = { nat_lt-asym };
+    ghost asym = { nat_lt_asym };
 
-    ghost chain = { nat_lt-chain };
+    ghost chain = { nat_lt_chain };
 }
 
 impl TotalOrder for u64 {
@@ -33,9 +33,9 @@ impl TotalOrder for u64 {
 
     ghost says = { Prim.search rules };
 
-    ghost asym = { nat_lt-asym };
+    ghost asym = { nat_lt_asym };
 
-    ghost chain = { nat_lt-chain };
+    ghost chain = { nat_lt_chain };
 }
 
 impl TotalOrder for usize {
@@ -43,18 +43,18 @@ impl TotalOrder for usize {
 
     ghost says = { Prim.search rules };
 
-    ghost asym = { nat_lt-asym };
+    ghost asym = { nat_lt_asym };
 
-    ghost chain = { nat_lt-chain };
+    ghost chain = { nat_lt_chain };
 }
 
 // The first part decides, then the second.
 impl<A: TotalOrder, B: TotalOrder> TotalOrder for (A, B) {
     ghost before = { lexical A.TotalOrder.before B.TotalOrder.before };
 
-    ghost says = { λ x y r. lexical-says A.TotalOrder.before B.TotalOrder.before x y _ _ r (A.TotalOrder.asym x.0 y.0) (A.TotalOrder.says x.0 y.0 _ refl) (B.TotalOrder.says x.1 y.1 _ refl) };
+    ghost says = { λ x y r. lexical_says A.TotalOrder.before B.TotalOrder.before x y _ _ r (A.TotalOrder.asym x.0 y.0) (A.TotalOrder.says x.0 y.0 _ refl) (B.TotalOrder.says x.1 y.1 _ refl) };
 
-    ghost asym = { lexical-asym A.TotalOrder.before B.TotalOrder.before A.TotalOrder.asym B.TotalOrder.asym };
+    ghost asym = { lexical_asym A.TotalOrder.before B.TotalOrder.before A.TotalOrder.asym B.TotalOrder.asym };
 
-    ghost chain = { lexical-chain A.TotalOrder.before B.TotalOrder.before A.TotalOrder.asym A.TotalOrder.chain B.TotalOrder.chain };
+    ghost chain = { lexical_chain A.TotalOrder.before B.TotalOrder.before A.TotalOrder.asym A.TotalOrder.chain B.TotalOrder.chain };
 }

@@ -18,34 +18,34 @@ use Rattle.reading.specs.Listings.{by_command, blocks_from}
 use Rattle.reading.specs.Steps.{block_of, point_of}
 use Rattle.listing.specs.Loading.{points_of, block_costs, Priced, Made}
 use Rattle.reading.proofs.Stepped.{nothing, FirstBlock, first_block}
-use Rattle.commands.proofs.Inverted.{point-ranges}
+use Rattle.commands.proofs.Inverted.{point_ranges}
 
 -- the ticks of a point that is read are in range
-point-is : (k : Command) (t q : ℕ) → by_command {X = Option (ℕ × ℕ)} (λ _. None) (λ _ _ _. None) (λ _. None) (λ x y. Some (x, y)) None None k ≡ Some (t, q) → k ≡ command.Point t q
-point-is (command.Routine n) t q e = nothing e
-point-is (command.Work n) t q e = nothing e
-point-is (command.Call n) t q e = nothing e
-point-is command.Either t q e = nothing e
-point-is command.Or t q e = nothing e
-point-is command.EndEither t q e = nothing e
-point-is (command.Repeat n) t q e = nothing e
-point-is command.EndRepeat t q e = nothing e
-point-is command.EndRoutine t q e = nothing e
-point-is (command.Task n m k) t q e = nothing e
-point-is (command.Block n) t q e = nothing e
-point-is (command.Point n m) t q e =
+point_is : (k : Command) (t q : ℕ) → by_command {X = Option (ℕ × ℕ)} (λ _. None) (λ _ _ _. None) (λ _. None) (λ x y. Some (x, y)) None None k ≡ Some (t, q) → k ≡ command.Point t q
+point_is (command.Routine n) t q e = nothing e
+point_is (command.Work n) t q e = nothing e
+point_is (command.Call n) t q e = nothing e
+point_is command.Either t q e = nothing e
+point_is command.Or t q e = nothing e
+point_is command.EndEither t q e = nothing e
+point_is (command.Repeat n) t q e = nothing e
+point_is command.EndRepeat t q e = nothing e
+point_is command.EndRoutine t q e = nothing e
+point_is (command.Task n m k) t q e = nothing e
+point_is (command.Block n) t q e = nothing e
+point_is (command.Point n m) t q e =
     let same : ◌≡◌ {A = ℕ × ℕ} (n, m) (t, q) = cc in
     (λ i. command.Point (same i).0 (same i).1)
-point-is command.EndTask t q e = nothing e
-point-is command.Sheet t q e = nothing e
+point_is command.EndTask t q e = nothing e
+point_is command.Sheet t q e = nothing e
 
-ticks-by : (bs : List ℕ) (p t q : ℕ) (r : Result (Option (ℕ × Command)) ReadFault) → answer AfterBlock bs p ≡ r → point_of r ≡ Some (t, q) → t ≤ 1000000
-ticks-by bs p t q (Ok None) a e = nothing e
-ticks-by bs p t q (Err f) a e = nothing e
-ticks-by bs p t q (Ok (Some k)) a e = point-ranges AfterBlock bs p k.0 t q (a ∙ ap (λ x. Ok (Some (k.0, x))) (point-is k.1 t q e))
+ticks_by : (bs : List ℕ) (p t q : ℕ) (r : Result (Option (ℕ × Command)) ReadFault) → answer AfterBlock bs p ≡ r → point_of r ≡ Some (t, q) → t ≤ 1000000
+ticks_by bs p t q (Ok None) a e = nothing e
+ticks_by bs p t q (Err f) a e = nothing e
+ticks_by bs p t q (Ok (Some k)) a e = point_ranges AfterBlock bs p k.0 t q (a ∙ ap (λ x. Ok (Some (k.0, x))) (point_is k.1 t q e))
 
-pub ticks-fit : (bs : List ℕ) (p t q : ℕ) → point_of (answer AfterBlock bs p) ≡ Some (t, q) → t ≤ 1000000
-ticks-fit bs p t q e = ticks-by bs p t q (answer AfterBlock bs p) refl e
+pub ticks_fit : (bs : List ℕ) (p t q : ℕ) → point_of (answer AfterBlock bs p) ≡ Some (t, q) → t ≤ 1000000
+ticks_fit bs p t q e = ticks_by bs p t q (answer AfterBlock bs p) refl e
 
 all_fit_push : (xs : List Block) (x : Block) → costs_fit xs ≡ true → cost_fits x.cost ≡ true → costs_fit (xs ++ x ∷ []) ≡ true
 all_fit_push [] x e f = and_from (cost_fits x.cost) true f refl
@@ -60,8 +60,8 @@ pairs_push : (points : List Point) (p : Point) → pairs (points ++ p ∷ []) �
 pairs_push [] p = refl
 pairs_push (q ∷ qs) p = ap (λ l. (q.ticks, q.charge) ∷ l) (pairs_push qs p)
 
-fits-body : (xs : List Block) (n m : ℕ) → 1 ≤ n → n ≤ 64 → m + 1 ≡ n → costs_fit xs ≡ true → body_fits xs n m ≡ true
-fits-body xs n m a b c d =
+fits_body : (xs : List Block) (n m : ℕ) → 1 ≤ n → n ≤ 64 → m + 1 ≡ n → costs_fit xs ≡ true → body_fits xs n m ≡ true
+fits_body xs n m a b c d =
     let p = le-leb 1 n a in
     let q = le-leb n 64 b in
     let r = eq-eqb (m + 1) n c in
@@ -95,32 +95,32 @@ module _ (bs : List ℕ) (of : ℕ → ℕ) (b : Blocks) (blocks : List Block) (
   no_block e = nothing (sym e ∙ step.reads)
 
   module _ (h : Head) (is : block_of (answer BlockDue bs place) ≡ Some h) (x : Block) (cost : x.cost ≡ of h.code) where
-    head-is : head step.code step.at ≡ h
-    head-is = let e = sym step.reads ∙ is in cc
+    head_is : head step.code step.at ≡ h
+    head_is = let e = sym step.reads ∙ is in cc
 
-    cost-is : of step.code ≡ x.cost
-    cost-is = ap (λ (y : Head). of y.code) head-is ∙ sym cost
+    cost_is : of step.code ≡ x.cost
+    cost_is = ap (λ (y : Head). of y.code) head_is ∙ sym cost
 
-    first-priced : Priced of g.rest.0 → (tail : List Head) → block_heads g.rest.0 ≡ head step.code step.at ∷ tail → cost_fits x.cost ≡ true
-    first-priced p tail e =
+    first_priced : Priced of g.rest.0 → (tail : List Head) → block_heads g.rest.0 ≡ head step.code step.at ∷ tail → cost_fits x.cost ≡ true
+    first_priced p tail e =
         let q = subst (λ l. AllByRecursion (λ (y : Head). (1 ≤ of y.code) × (of y.code ≤ 1000000)) l) e p in
         let low = q.0.0 in
         let high = q.0.1 in
-        and_from (leb 1 x.cost) (leb x.cost 1000000) (le-leb _ _ (omega (arith, cost-is, low))) (le-leb _ _ (omega (arith, cost-is, high)))
+        and_from (leb 1 x.cost) (leb x.cost 1000000) (le-leb _ _ (omega (arith, cost_is, low))) (le-leb _ _ (omega (arith, cost_is, high)))
 
-    tail-priced : (z : Head) (zs : List Head) → AllByRecursion (λ (y : Head). (1 ≤ of y.code) × (of y.code ≤ 1000000)) (z ∷ zs) → AllByRecursion (λ (y : Head). (1 ≤ of y.code) × (of y.code ≤ 1000000)) zs
-    tail-priced z zs all = all.1
+    tail_priced : (z : Head) (zs : List Head) → AllByRecursion (λ (y : Head). (1 ≤ of y.code) × (of y.code ≤ 1000000)) (z ∷ zs) → AllByRecursion (λ (y : Head). (1 ≤ of y.code) × (of y.code ≤ 1000000)) zs
+    tail_priced z zs all = all.1
 
     pub last_block : point_of (answer AfterBlock bs (after BlockDue bs place)) ≡ None → Made of b (blocks ++ x ∷ []) points
     last_block e =
         ⊎_elim
         (λ y.
         let long = length_push blocks x in
-        let fit = first-priced g.priced [] (ap block_heads y.1) in
+        let fit = first_priced g.priced [] (ap block_heads y.1) in
         record {
-          costs = map-append (λ (z : Block). z.cost) blocks (x ∷ []) ∙ ap (λ n. costs_in blocks ++ n ∷ []) (sym cost-is) ∙ ap (λ z. costs_in blocks ++ block_costs of z) (sym y.1) ∙ g.costs;
+          costs = map-append (λ (z : Block). z.cost) blocks (x ∷ []) ∙ ap (λ n. costs_in blocks ++ n ∷ []) (sym cost_is) ∙ ap (λ z. costs_in blocks ++ block_costs of z) (sym y.1) ∙ g.costs;
           between = sym (append-nil (pairs points)) ∙ ap (λ z. pairs points ++ points_of z) (sym y.1) ∙ g.between;
-          fits = fits-body (blocks ++ x ∷ []) (length (blocks ++ x ∷ [])) (length points) (omega arith) (omega (arith, step.few)) (omega (arith, g.level)) (all_fit_push blocks x g.fit fit);
+          fits = fits_body (blocks ++ x ∷ []) (length (blocks ++ x ∷ [])) (length points) (omega arith) (omega (arith, step.few)) (omega (arith, g.level)) (all_fit_push blocks x g.fit fit);
         })
         (λ y. nothing (sym e ∙ y.3))
         step.follows
@@ -133,16 +133,16 @@ module _ (bs : List ℕ) (of : ℕ → ℕ) (b : Blocks) (blocks : List Block) (
         let some : suc (g.left - 1) ≡ g.left = omega (arith, g.enough) in
         let long = length_push blocks x in
         let same : ◌≡◌ {A = ℕ × ℕ} (y.0, y.1) (t, m) = let f = sym y.3 ∙ e in cc in
-        let fit = first-priced g.priced (block_heads y.2) (ap block_heads y.5) in
+        let fit = first_priced g.priced (block_heads y.2) (ap block_heads y.5) in
         record {
           left = g.left - 1;
           rest = (y.2, g.rest.1);
           enough = omega (arith, g.enough);
           reads = (λ i. blocks_from bs (some i) (long i) (on i)) ∙ y.4;
           level = length_push points p ∙ ap (λ n. n + 1) g.level ∙ sym long;
-          costs = ap (λ l. l ++ block_costs of y.2) (map-append (λ (z : Block). z.cost) blocks (x ∷ [])) ∙ append_assoc (costs_in blocks) (x.cost ∷ []) (block_costs of y.2) ∙ ap (λ n. costs_in blocks ++ n ∷ block_costs of y.2) (sym cost-is) ∙ ap (λ z. costs_in blocks ++ block_costs of z) (sym y.5) ∙ g.costs;
+          costs = ap (λ l. l ++ block_costs of y.2) (map-append (λ (z : Block). z.cost) blocks (x ∷ [])) ∙ append_assoc (costs_in blocks) (x.cost ∷ []) (block_costs of y.2) ∙ ap (λ n. costs_in blocks ++ n ∷ block_costs of y.2) (sym cost_is) ∙ ap (λ z. costs_in blocks ++ block_costs of z) (sym y.5) ∙ g.costs;
           between = ap (λ l. l ++ points_of y.2) (pairs_push points p) ∙ append_assoc (pairs points) ((p.ticks, p.charge) ∷ []) (points_of y.2) ∙ (λ i. pairs points ++ (ticks-are i, charge-is i) ∷ points_of y.2) ∙ (λ i. pairs points ++ sym same i ∷ points_of y.2) ∙ ap (λ z. pairs points ++ points_of z) (sym y.5) ∙ g.between;
           fit = all_fit_push blocks x g.fit fit;
-          priced = tail-priced (head step.code step.at) (block_heads y.2) (subst (λ l. AllByRecursion (λ (z : Head). (1 ≤ of z.code) × (of z.code ≤ 1000000)) l) (ap block_heads y.5) g.priced);
+          priced = tail_priced (head step.code step.at) (block_heads y.2) (subst (λ l. AllByRecursion (λ (z : Head). (1 ≤ of z.code) × (of z.code ≤ 1000000)) l) (ap block_heads y.5) g.priced);
         })
         step.follows

@@ -11,9 +11,9 @@ keeps rows i k code h w e =
       says = λ c _. sym (ap (λ b. entry rows i c || (b && entry rows k c)) e ∙ or_false (entry rows i c));
     }
 
-pub start-closed : (rows : List (List Bool)) (code : ℕ → ℕ) → Wide rows → Tabled rows (closed (entry rows) code 0)
+pub start_closed : (rows : List (List Bool)) (code : ℕ → ℕ) → Wide rows → Tabled rows (closed (entry rows) code 0)
 unfolding closed
-start-closed rows code w = record { wide = w; says = λ i c h k. refl }
+start_closed rows code w = record { wide = w; says = λ i c h k. refl }
 
 module _ (rows next : List (List Bool)) (t : Table) (code : ℕ → ℕ) (k : ℕ) (few : k < 32) (small : code k < 256) where
   pub pass_closed : Tabled rows (closed t code k) → Tabled next (through (entry rows) k (code k)) → Tabled next (closed t code (k + 1))

@@ -21,7 +21,7 @@ use Rattle.listing.specs.declared.cost.Costs.{Costs}
 use Rattle.listing.specs.Costed.{cost_told, costs_of}
 use Rattle.listing.specs.Reach.{CycleTold}
 use Rattle.listing.proofs.Reached.{cycles_told}
-use Rattle.listing.proofs.Judged.{listing-parts, calls_same, unknown-append, block-unknown, blocks-known, cycle_same, dear_same, costs_are}
+use Rattle.listing.proofs.Judged.{listing_parts, calls_same, unknown_append, block_unknown, blocks_known, cycle_same, dear_same, costs_are}
 
 fault_by : (f : ReadFault) (r : Result Listing ReadFault) → Err f ≡ outline_of r → Err (Read f) ≡ costs_of (judged_after r)
 fault_by f (Ok l) e = let z : ◌≡◌ {A = ℕ} 0 1 = cc in absurd (omega arith)
@@ -42,14 +42,14 @@ pub record Outlined (bs : List ℕ) (o : Outline) : Type 0 where
   pub routines_are : held o.routines ≡ map routine_head it.routines
   pub tasks_are : held o.tasks ≡ map task_head it.tasks
 
-outlined-by : (bs : List ℕ) (o : Outline) (r : Result Listing ReadFault) → listing bs ≡ r → Ok (held o.routines, held o.tasks) ≡ outline_of r → Outlined bs o
-outlined-by bs o (Ok l) a e =
+outlined_by : (bs : List ℕ) (o : Outline) (r : Result Listing ReadFault) → listing bs ≡ r → Ok (held o.routines, held o.tasks) ≡ outline_of r → Outlined bs o
+outlined_by bs o (Ok l) a e =
     let both : (held o.routines, held o.tasks) ≡ (map routine_head l.routines, map task_head l.tasks) = cc in
     record { it = l; is = a; routines_are = ap (λ (x : List Head × List Head). x.0) both; tasks_are = ap (λ (x : List Head × List Head). x.1) both }
-outlined-by bs o (Err f) a e = let z : ◌≡◌ {A = ℕ} 0 1 = cc in absurd (omega arith)
+outlined_by bs o (Err f) a e = let z : ◌≡◌ {A = ℕ} 0 1 = cc in absurd (omega arith)
 
 pub outlined : (bs : List ℕ) (o : Outline) → Ok (held o.routines, held o.tasks) ≡ outline_of (listing bs) → Outlined bs o
-outlined bs o e = outlined-by bs o (listing bs) refl e
+outlined bs o e = outlined_by bs o (listing bs) refl e
 
 module _ (bs : List ℕ) (o : Outline) (x : Outlined bs o) where
   rs : List Routine
@@ -64,7 +64,7 @@ module _ (bs : List ℕ) (o : Outline) (x : Outlined bs o) where
 
   parts : AllByRecursion (BodyRead bs) rs × AllByRecursion (TaskRead bs) ts
   unfolding rs ts
-  parts = listing-parts bs x.it x.is
+  parts = listing_parts bs x.it x.is
 
   pub few : length x.it.routines ≤ 32
   few =
@@ -80,40 +80,40 @@ module _ (bs : List ℕ) (o : Outline) (x : Outlined bs o) where
 
   calls_are : calls_in bs (held o.routines) ≡ call_lists rs
   unfolding rs
-  calls_are = ap (calls_in bs) x.routines_are ∙ calls_same bs x.it.routines (listing-parts bs x.it x.is).0
+  calls_are = ap (calls_in bs) x.routines_are ∙ calls_same bs x.it.routines (listing_parts bs x.it x.is).0
 
   -- the first fault of the three
-  after-unknown : {r : _} → unknown_in known (call_lists rs ++ block_lists ts) ≡ r → costs_of (costing bs) ≡ costs_of (unless r Unknown (unless (cycle_from (reach_table rs) 0 known) Cycle (unless (dear_from (cost_in rs 32) known) TooDear (Ok x.it))))
+  after_unknown : {r : _} → unknown_in known (call_lists rs ++ block_lists ts) ≡ r → costs_of (costing bs) ≡ costs_of (unless r Unknown (unless (cycle_from (reach_table rs) 0 known) Cycle (unless (dear_from (cost_in rs 32) known) TooDear (Ok x.it))))
   unfolding rs ts known
-  after-unknown e = whole ∙ ap (λ r. costs_of (unless r Unknown (unless (cycle_from (reach_table x.it.routines) 0 (map routine_head x.it.routines)) Cycle (unless (dear_from (cost_in x.it.routines 32) (map routine_head x.it.routines)) TooDear (Ok x.it))))) e
+  after_unknown e = whole ∙ ap (λ r. costs_of (unless r Unknown (unless (cycle_from (reach_table x.it.routines) 0 (map routine_head x.it.routines)) Cycle (unless (dear_from (cost_in x.it.routines 32) (map routine_head x.it.routines)) TooDear (Ok x.it))))) e
 
   known_in : (lists : List (List Head)) (r : Option Head) → unknown_in (held o.routines) lists ≡ r → unknown_in known lists ≡ r
   unfolding rs known
   known_in lists r e = ap (λ hs. unknown_in hs lists) (sym x.routines_are) ∙ e
 
-  pub call-told : (h : Head) → unknown_in (held o.routines) (calls_in bs (held o.routines)) ≡ Some h → Err (Unknown h.at h.code) ≡ costs_of (costing bs)
-  call-told h e =
+  pub call_told : (h : Head) → unknown_in (held o.routines) (calls_in bs (held o.routines)) ≡ Some h → Err (Unknown h.at h.code) ≡ costs_of (costing bs)
+  call_told h e =
       let f : unknown_in known (call_lists rs) ≡ Some h = ap (unknown_in known) (sym calls_are) ∙ known_in (calls_in bs (held o.routines)) (Some h) e in
-      sym (after-unknown (unknown-append known (call_lists rs) (block_lists ts) ∙ ap (λ y. or_else y (unknown_in known (block_lists ts))) f))
+      sym (after_unknown (unknown_append known (call_lists rs) (block_lists ts) ∙ ap (λ y. or_else y (unknown_in known (block_lists ts))) f))
 
   module _ (calls : List (List Bool)) (told : Tabled calls (table_of (calls_in bs (held o.routines))) × (unknown_in (held o.routines) (calls_in bs (held o.routines)) ≡ None)) (marks : List Bool) (strange : RowSays marks (λ c. not (used c (held o.routines)))) where
-    unknown-is : unknown_in known (call_lists rs ++ block_lists ts) ≡ unknown_in known (block_lists ts)
-    unknown-is =
+    unknown_is : unknown_in known (call_lists rs ++ block_lists ts) ≡ unknown_in known (block_lists ts)
+    unknown_is =
         let f : unknown_in known (call_lists rs) ≡ None = ap (unknown_in known) (sym calls_are) ∙ known_in (calls_in bs (held o.routines)) None told.1 in
-        unknown-append known (call_lists rs) (block_lists ts) ∙ ap (λ y. or_else y (unknown_in known (block_lists ts))) f
+        unknown_append known (call_lists rs) (block_lists ts) ∙ ap (λ y. or_else y (unknown_in known (block_lists ts))) f
 
     strange_too : RowSays marks (λ c. not (used c known))
     unfolding rs known
     strange_too = subst (λ hs. RowSays marks (λ c. not (used c hs))) x.routines_are strange
 
-    pub block-told : (y : Head × Head) → ((l : List Task) → held o.tasks ≡ map task_head l → AllByRecursion (TaskRead bs) l → Some y ≡ marked_in marks l) → Err (Unknown y.1.at y.1.code) ≡ costs_of (costing bs)
+    pub block_told : (y : Head × Head) → ((l : List Task) → held o.tasks ≡ map task_head l → AllByRecursion (TaskRead bs) l → Some y ≡ marked_in marks l) → Err (Unknown y.1.at y.1.code) ≡ costs_of (costing bs)
     unfolding ts
-    block-told y e = sym (after-unknown (unknown-is ∙ block-unknown known marks strange_too bs ts y parts.1 (e ts x.tasks_are parts.1)))
+    block_told y e = sym (after_unknown (unknown_is ∙ block_unknown known marks strange_too bs ts y parts.1 (e ts x.tasks_are parts.1)))
 
     module _ (fine : (l : List Task) → held o.tasks ≡ map task_head l → AllByRecursion (TaskRead bs) l → None ≡ marked_in marks l) (rows : List (List Bool)) (reach : Tabled rows (closed (entry calls) (code_at (held o.routines)) (length (held o.routines)))) where
-      none-unknown : unknown_in known (call_lists rs ++ block_lists ts) ≡ None
+      none_unknown : unknown_in known (call_lists rs ++ block_lists ts) ≡ None
       unfolding ts
-      none-unknown = unknown-is ∙ blocks-known known marks strange_too bs ts parts.1 (fine ts x.tasks_are parts.1)
+      none_unknown = unknown_is ∙ blocks_known known marks strange_too bs ts parts.1 (fine ts x.tasks_are parts.1)
 
       cycle_is : cycle_from (entry rows) 0 (held o.routines) ≡ cycle_from (reach_table rs) 0 known
       unfolding rs known
@@ -122,19 +122,19 @@ module _ (bs : List ℕ) (o : Outline) (x : Outlined bs o) where
           ∙ cycle_same bs x.it.routines calls rows parts.0 few (subst (λ l. Tabled calls (table_of l)) calls_are told.0) (subst (λ hs. Tabled rows (closed (entry calls) (code_at hs) (length hs))) x.routines_are reach)
 
       after_cycle : {r : _} → cycle_from (entry rows) 0 (held o.routines) ≡ r → costs_of (costing bs) ≡ costs_of (unless r Cycle (unless (dear_from (cost_in rs 32) known) TooDear (Ok x.it)))
-      after_cycle e = after-unknown none-unknown ∙ ap (λ r. costs_of (unless r Cycle (unless (dear_from (cost_in rs 32) known) TooDear (Ok x.it)))) (sym cycle_is ∙ e)
+      after_cycle e = after_unknown none_unknown ∙ ap (λ r. costs_of (unless r Cycle (unless (dear_from (cost_in rs 32) known) TooDear (Ok x.it)))) (sym cycle_is ∙ e)
 
       pub cycle_told : (h : Head) → Some h ≡ cycle_from (entry rows) 0 (held o.routines) → Err (Cycle h.at h.code) ≡ costs_of (costing bs)
       cycle_told h e = sym (after_cycle (sym e))
 
       module _ (no-cycle : None ≡ cycle_from (entry rows) 0 (held o.routines)) (costs : List ℕ) (capped : (l : List Routine) → held o.routines ≡ map routine_head l → AllByRecursion (BodyRead bs) l → Capped costs (cost_in l 32)) where
-        costs-told : Capped costs (cost_in rs 32)
+        costs_told : Capped costs (cost_in rs 32)
         unfolding rs
-        costs-told = capped x.it.routines x.routines_are parts.0
+        costs_told = capped x.it.routines x.routines_are parts.0
 
         dear_is : dear_from (cost_of_code costs) (held o.routines) ≡ dear_from (cost_in rs 32) known
         unfolding rs known
-        dear_is = ap (dear_from (cost_of_code costs)) x.routines_are ∙ dear_same bs (cost_in x.it.routines 32) costs x.it.routines parts.0 costs-told
+        dear_is = ap (dear_from (cost_of_code costs)) x.routines_are ∙ dear_same bs (cost_in x.it.routines 32) costs x.it.routines parts.0 costs_told
 
         after_dear : {r : _} → dear_from (cost_of_code costs) (held o.routines) ≡ r → costs_of (costing bs) ≡ costs_of (unless r TooDear (Ok x.it))
         after_dear e = after_cycle (sym no-cycle) ∙ ap (λ r. costs_of (unless r TooDear (Ok x.it))) (sym dear_is ∙ e)
@@ -145,5 +145,5 @@ module _ (bs : List ℕ) (o : Outline) (x : Outlined bs o) where
         pub all_told : None ≡ dear_from (cost_of_code costs) (held o.routines) → Ok (held o.routines, held o.tasks, costs) ≡ costs_of (costing bs)
         unfolding rs known
         all_told e =
-            let c : costs ≡ map (cost_in x.it.routines 32) (range_with_len 0 256) = costs_are x.it.routines costs (sym dear_is ∙ sym e) costs-told in
+            let c : costs ≡ map (cost_in x.it.routines 32) (range_with_len 0 256) = costs_are x.it.routines costs (sym dear_is ∙ sym e) costs_told in
             (λ i. Ok (x.routines_are i, x.tasks_are i, c i)) ∙ sym (after_dear (sym e))

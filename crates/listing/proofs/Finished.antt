@@ -28,7 +28,7 @@ use Rattle.listing.specs.Reach.{TrueCosts, CycleTold}
 use Rattle.reading.proofs.Encoded.{accepted}
 use Rattle.reading.proofs.Fitted.{read_fits}
 use Rattle.reading.proofs.Stepped.{nothing}
-use Rattle.listing.proofs.Judged.{listing-parts, small-blocks, none_dear}
+use Rattle.listing.proofs.Judged.{listing_parts, small_blocks, none_dear}
 
 clash : {X Y F : Type 0} {x : X} {f : F} → ◌≡◌ {A = Result X F} (Err f) (Ok x) → Y
 clash e = let z : ◌≡◌ {A = ℕ} 0 1 = cc in absurd (omega arith)
@@ -54,8 +54,8 @@ pub record Costed (bs : List ℕ) (k : Costs) : Type 0 where
   pub tasks_are : held k.outline.tasks ≡ map task_head it.tasks
   pub costs_are : k.by_code ≡ map (cost_in it.routines 32) (range_with_len 0 256)
 
-costed-by : (bs : List ℕ) (k : Costs) (r : Result Listing CostFault) → costing bs ≡ r → Ok (held k.outline.routines, held k.outline.tasks, k.by_code) ≡ costs_of r → Costed bs k
-costed-by bs k (Ok l) a e =
+costed_by : (bs : List ℕ) (k : Costs) (r : Result Listing CostFault) → costing bs ≡ r → Ok (held k.outline.routines, held k.outline.tasks, k.by_code) ≡ costs_of r → Costed bs k
+costed_by bs k (Ok l) a e =
     let all : (held k.outline.routines, held k.outline.tasks, k.by_code) ≡ (map routine_head l.routines, map task_head l.tasks, map (cost_in l.routines 32) (range_with_len 0 256)) = cc in
     record {
       it = l;
@@ -64,10 +64,10 @@ costed-by bs k (Ok l) a e =
       tasks_are = ap (λ (x : List Head × List Head × List ℕ). x.1) all;
       costs_are = ap (λ (x : List Head × List Head × List ℕ). x.2) all;
     }
-costed-by bs k (Err f) a e = clash (sym e)
+costed_by bs k (Err f) a e = clash (sym e)
 
 pub costed : (bs : List ℕ) (k : Costs) → Ok (held k.outline.routines, held k.outline.tasks, k.by_code) ≡ costs_of (costing bs) → Costed bs k
-costed bs k e = costed-by bs k (costing bs) refl e
+costed bs k e = costed_by bs k (costing bs) refl e
 
 cost_fault_by : (f : CostFault) (r : Result Listing CostFault) → Err f ≡ costs_of r → loaded_after r ≡ Err (Cost f)
 cost_fault_by f (Ok l) e = clash e
@@ -81,44 +81,44 @@ some_more : (n : ℕ) → (n ≡ 0 → ⊥) → 1 ≤ n
 some_more zero h = absurd (h refl)
 some_more (suc n) h = omega arith
 
-next-none : (t : Head) (o : Option Head) (r : Option (Head × Head)) → or_next t o r ≡ None → (o ≡ None) × (r ≡ None)
-next-none t None r e = (refl, e)
-next-none t (Some h) r e = nothing (sym e)
+next_none : (t : Head) (o : Option Head) (r : Option (Head × Head)) → or_next t o r ≡ None → (o ≡ None) × (r ≡ None)
+next_none t None r e = (refl, e)
+next_none t (Some h) r e = nothing (sym e)
 
 -- blocks that are not marked as free cost something
-some-cost : (of : ℕ → ℕ) (marks : List Bool) (hs : List Head) → ((c : ℕ) → c < 256 → get_or marks c false ≡ eqb (of c) 0) → ((c : ℕ) → of c ≤ 1000000) → AllByRecursion (λ (h : Head). h.code < 256) hs → first_marked marks hs ≡ None → AllByRecursion (λ (h : Head). (1 ≤ of h.code) × (of h.code ≤ 1000000)) hs
-some-cost of marks [] says high small e = tt
-some-cost of marks (h ∷ hs) says high small e =
+some_cost : (of : ℕ → ℕ) (marks : List Bool) (hs : List Head) → ((c : ℕ) → c < 256 → get_or marks c false ≡ eqb (of c) 0) → ((c : ℕ) → of c ≤ 1000000) → AllByRecursion (λ (h : Head). h.code < 256) hs → first_marked marks hs ≡ None → AllByRecursion (λ (h : Head). (1 ≤ of h.code) × (of h.code ≤ 1000000)) hs
+some_cost of marks [] says high small e = tt
+some_cost of marks (h ∷ hs) says high small e =
     ⊎_elim
     (λ m. nothing (sym (sym (cond-true _ _ _ m) ∙ e)))
     (λ m.
     let ne = eqb-false (of h.code) 0 (sym (says h.code small.0) ∙ m) in
     let pos : 1 ≤ of h.code = some_more (of h.code) ne in
-    ((pos, high h.code), some-cost of marks hs says high small.1 (sym (cond-false _ _ _ m) ∙ e)))
+    ((pos, high h.code), some_cost of marks hs says high small.1 (sym (cond-false _ _ _ m) ∙ e)))
     (cases_Bool (get_or marks h.code false))
 
-all-priced : (bs : List ℕ) (of : ℕ → ℕ) (marks : List Bool) (ts : List Task) → ((c : ℕ) → c < 256 → get_or marks c false ≡ eqb (of c) 0) → ((c : ℕ) → of c ≤ 1000000) → AllByRecursion (TaskRead bs) ts → marked_in marks ts ≡ None → AllByRecursion (λ (t : Task). Priced of t.blocks) ts
-all-priced bs of marks [] says high all e = tt
-all-priced bs of marks (t ∷ ts) says high all e =
-    let p = next-none (task_head t) (first_marked marks (block_heads t.blocks)) (marked_in marks ts) e in (
-      some-cost of marks (block_heads t.blocks) says high (small-blocks (suc (length bs)) bs 0 _ (t.blocks, all.0.end) all.0.blocks_are) p.0,
-      all-priced bs of marks ts says high all.1 p.1,
+all_priced : (bs : List ℕ) (of : ℕ → ℕ) (marks : List Bool) (ts : List Task) → ((c : ℕ) → c < 256 → get_or marks c false ≡ eqb (of c) 0) → ((c : ℕ) → of c ≤ 1000000) → AllByRecursion (TaskRead bs) ts → marked_in marks ts ≡ None → AllByRecursion (λ (t : Task). Priced of t.blocks) ts
+all_priced bs of marks [] says high all e = tt
+all_priced bs of marks (t ∷ ts) says high all e =
+    let p = next_none (task_head t) (first_marked marks (block_heads t.blocks)) (marked_in marks ts) e in (
+      some_cost of marks (block_heads t.blocks) says high (small_blocks (suc (length bs)) bs 0 _ (t.blocks, all.0.end) all.0.blocks_are) p.0,
+      all_priced bs of marks ts says high all.1 p.1,
     )
 
 -- the same tasks at costs that agree
-same-costs : (of by : ℕ → ℕ) (hs : List Head) → ((c : ℕ) → c < 256 → of c ≡ by c) → AllByRecursion (λ (h : Head). h.code < 256) hs → map (λ (h : Head). of h.code) hs ≡ map (λ (h : Head). by h.code) hs
-same-costs of by [] same small = refl
-same-costs of by (h ∷ hs) same small = (λ i. same h.code small.0 i ∷ same-costs of by hs same small.1 i)
+same_costs : (of by : ℕ → ℕ) (hs : List Head) → ((c : ℕ) → c < 256 → of c ≡ by c) → AllByRecursion (λ (h : Head). h.code < 256) hs → map (λ (h : Head). of h.code) hs ≡ map (λ (h : Head). by h.code) hs
+same_costs of by [] same small = refl
+same_costs of by (h ∷ hs) same small = (λ i. same h.code small.0 i ∷ same_costs of by hs same small.1 i)
 
-same-tasks : (bs : List ℕ) (of by : ℕ → ℕ) (xs : List HeldTask) (ts : List Task) → ((c : ℕ) → c < 256 → of c ≡ by c) → AllByRecursion (TaskRead bs) ts → Are of xs ts → Are by xs ts
-same-tasks bs of by [] [] same all a = tt
-same-tasks bs of by [] (t ∷ ts) same all a = absurd a
-same-tasks bs of by (x ∷ xs) [] same all a = absurd a
-same-tasks bs of by (x ∷ xs) (t ∷ ts) same all a =
-    let small = small-blocks (suc (length bs)) bs 0 _ (t.blocks, all.0.end) all.0.blocks_are in
+same_tasks : (bs : List ℕ) (of by : ℕ → ℕ) (xs : List HeldTask) (ts : List Task) → ((c : ℕ) → c < 256 → of c ≡ by c) → AllByRecursion (TaskRead bs) ts → Are of xs ts → Are by xs ts
+same_tasks bs of by [] [] same all a = tt
+same_tasks bs of by [] (t ∷ ts) same all a = absurd a
+same_tasks bs of by (x ∷ xs) [] same all a = absurd a
+same_tasks bs of by (x ∷ xs) (t ∷ ts) same all a =
+    let small = small_blocks (suc (length bs)) bs 0 _ (t.blocks, all.0.end) all.0.blocks_are in
     let one : Is of x t = a.0 in (
-      record { code = one.code; period = one.period; deadline = one.deadline; blocks = one.blocks ∙ same-costs of by (block_heads t.blocks) same small; points = one.points },
-      same-tasks bs of by xs ts same all.1 a.1,
+      record { code = one.code; period = one.period; deadline = one.deadline; blocks = one.blocks ∙ same_costs of by (block_heads t.blocks) same small; points = one.points },
+      same_tasks bs of by xs ts same all.1 a.1,
     )
 
 module _ (bs : List ℕ) (k : Costs) (x : Costed bs k) where
@@ -129,8 +129,8 @@ module _ (bs : List ℕ) (k : Costs) (x : Costed bs k) where
   unfolding costing
   read_ok = judged_ok bs x.it (listing bs) refl x.is
 
-  pub tasks-read : AllByRecursion (TaskRead bs) x.it.tasks
-  tasks-read = (listing-parts bs x.it read_ok.0).1
+  pub tasks_read : AllByRecursion (TaskRead bs) x.it.tasks
+  tasks_read = (listing_parts bs x.it read_ok.0).1
 
   table_is : (c : ℕ) → c < 256 → cost_of_code k.by_code c ≡ of c
   unfolding of
@@ -141,8 +141,8 @@ module _ (bs : List ℕ) (k : Costs) (x : Costed bs k) where
   high c =
       ⊎_elim (λ z. let free : cost_in x.it.routines 32 c ≡ 0 = z in omega arith) (λ z. z) (none_dear (cost_in x.it.routines 32) (cost_in x.it.routines 31) x.it.routines c read_ok.1)
 
-  table-high : (c : ℕ) → cost_of_code k.by_code c ≤ 1000000
-  table-high c =
+  table_high : (c : ℕ) → cost_of_code k.by_code c ≤ 1000000
+  table_high c =
       ⊎_elim
       (λ h. let e = table_is c h in omega (arith, high c))
       (λ h. let e = get_or_past k.by_code c 0 (omega (arith, ap length x.costs_are ∙ length-map-range_with_len (cost_in x.it.routines 32) 0 256)) in omega arith)
@@ -158,21 +158,21 @@ module _ (bs : List ℕ) (k : Costs) (x : Costed bs k) where
     whole = ap loaded_after x.is ∙ ap (λ m. unless_free (marked_in m x.it.tasks) x.it) (sym marks_are)
 
     pub free_told : (y : Head × Head) → ((ts : List Task) → held k.outline.tasks ≡ map task_head ts → AllByRecursion (TaskRead bs) ts → Some y ≡ marked_in marks ts) → loading bs ≡ Err (FreeBlock y.1.at y.0.code)
-    free_told y e = whole ∙ ap (λ o. unless_free o x.it) (sym (e x.it.tasks x.tasks_are tasks-read))
+    free_told y e = whole ∙ ap (λ o. unless_free o x.it) (sym (e x.it.tasks x.tasks_are tasks_read))
 
     module _ (none : (ts : List Task) → held k.outline.tasks ≡ map task_head ts → AllByRecursion (TaskRead bs) ts → None ≡ marked_in marks ts) where
       none_free : marked_in marks x.it.tasks ≡ None
-      none_free = sym (none x.it.tasks x.tasks_are tasks-read)
+      none_free = sym (none x.it.tasks x.tasks_are tasks_read)
 
       pub loads : loading bs ≡ Ok x.it
       loads = whole ∙ ap (λ o. unless_free o x.it) none_free
 
-      pub tasks-priced : AllByRecursion (λ (t : Task). Priced (cost_of_code k.by_code) t.blocks) x.it.tasks
-      tasks-priced = all-priced bs (cost_of_code k.by_code) marks x.it.tasks says.says table-high tasks-read none_free
+      pub tasks_priced : AllByRecursion (λ (t : Task). Priced (cost_of_code k.by_code) t.blocks) x.it.tasks
+      tasks_priced = all_priced bs (cost_of_code k.by_code) marks x.it.tasks says.says table_high tasks_read none_free
 
       pub true_tasks : (xs : List HeldTask) → Are (cost_of_code k.by_code) xs x.it.tasks → Are (cost_in x.it.routines 32) xs x.it.tasks
       unfolding of
-      true_tasks xs a = same-tasks bs (cost_of_code k.by_code) (cost_in x.it.routines 32) xs x.it.tasks table_is tasks-read a
+      true_tasks xs a = same_tasks bs (cost_of_code k.by_code) (cost_in x.it.routines 32) xs x.it.tasks table_is tasks_read a
 
       same_tree : (m : Listing) → listing bs ≡ Ok m → m ≡ x.it
       same_tree m e = let f : Ok m ≡ Ok x.it = sym e ∙ read_ok.0 in cc

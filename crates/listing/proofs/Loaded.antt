@@ -19,8 +19,8 @@ use Rattle.commands.proofs.Inverted.{task_ranges}
 use Rattle.listing.proofs.MarkedTasks.{no_task}
 
 module _ (bs : List ℕ) (t : Task) (at : ℕ) (is : t.at ≡ at) (r : TaskRead bs t) where
-  pub blocks-here : (p : ℕ) → p ≡ after Tasks bs at → blocks_from bs (suc (length bs)) 0 p ≡ Ok (t.blocks, r.end)
-  blocks-here p on = ap (blocks_from bs (suc (length bs)) 0) (on ∙ ap (after Tasks bs) (sym is)) ∙ r.blocks_are
+  pub blocks_here : (p : ℕ) → p ≡ after Tasks bs at → blocks_from bs (suc (length bs)) 0 p ≡ Ok (t.blocks, r.end)
+  blocks_here p on = ap (blocks_from bs (suc (length bs)) 0) (on ∙ ap (after Tasks bs) (sym is)) ∙ r.blocks_are
 
   pub clock_is : (k : Clock) → Some k ≡ task_of (answer Tasks bs at) → k ≡ record { code = t.code; period = t.period; deadline = t.deadline }
   clock_is k e =
@@ -67,6 +67,6 @@ module _ (bs : List ℕ) (of : ℕ → ℕ) (ts : List Task) (hs : List Head) (h
     unfolding the_task
     the_place h is = sym (ap (λ (x : Head). x.at) (is ∙ ap (λ l. get_or l i (head 0 0)) heads_are ∙ get_or-map task_head ts i no_task (head 0 0) low))
 
-    pub load-more : (xs : List HeldTask) (x : HeldTask) → Are of xs (take i ts) → Is of x the_task → Are of (xs ++ x ∷ []) (take (i + 1) ts)
+    pub load_more : (xs : List HeldTask) (x : HeldTask) → Are of xs (take i ts) → Is of x the_task → Are of (xs ++ x ∷ []) (take (i + 1) ts)
     unfolding the_task
-    load-more xs x a e = subst (Are of (xs ++ x ∷ [])) (sym (take_more ts i no_task low)) (Are-push of xs (take i ts) x (get_or ts i no_task) a e)
+    load_more xs x a e = subst (Are of (xs ++ x ∷ [])) (sym (take_more ts i no_task low)) (Are-push of xs (take i ts) x (get_or ts i no_task) a e)

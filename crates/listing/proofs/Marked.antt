@@ -28,11 +28,11 @@ module _ (bs : List ℕ) (marks : List Bool) (place : ℕ) (target : Option Head
   no_first e = nothing (sym e ∙ step.reads)
 
   module _ (h : Head) (is : block_of (answer BlockDue bs place) ≡ Some h) where
-    head-is : head step.code step.at ≡ h
-    head-is = let e = sym step.reads ∙ is in cc
+    head_is : head step.code step.at ≡ h
+    head_is = let e = sym step.reads ∙ is in cc
 
     heads_are : (tail : List Head) → block_heads g.rest.0 ≡ head step.code step.at ∷ tail → target ≡ first_marked marks (h ∷ tail)
-    heads_are tail e = sym g.same ∙ ap (first_marked marks) (e ∙ ap (λ x. x ∷ tail) head-is)
+    heads_are tail e = sym g.same ∙ ap (first_marked marks) (e ∙ ap (λ x. x ∷ tail) head_is)
 
     some_heads : (tail : List Head) × (block_heads g.rest.0 ≡ head step.code step.at ∷ tail)
     some_heads = ⊎_elim (λ x. ([], ap block_heads x.1)) (λ x. (block_heads x.2, ap block_heads x.5)) step.follows
@@ -48,8 +48,8 @@ module _ (bs : List ℕ) (marks : List Bool) (place : ℕ) (target : Option Head
           (λ x. nothing (sym e ∙ x.3))
           step.follows
 
-      pub step-on : (p : ℕ × ℕ) (q : ℕ) → point_of (answer AfterBlock bs (after BlockDue bs place)) ≡ Some p → q ≡ after AfterBlock bs (after BlockDue bs place) → place < q → place < length bs → Walking bs marks q target
-      step-on p q e on forth inside =
+      pub step_on : (p : ℕ × ℕ) (q : ℕ) → point_of (answer AfterBlock bs (after BlockDue bs place)) ≡ Some p → q ≡ after AfterBlock bs (after BlockDue bs place) → place < q → place < length bs → Walking bs marks q target
+      step_on p q e on forth inside =
           ⊎_elim
           (λ x. nothing (sym x.0 ∙ e))
           (λ x.

@@ -15,8 +15,8 @@ pub no_task : Task
 no_task = record { code = 0; at = 0; period = 0; deadline = 0; blocks = final 0 0 }
 
 module _ (bs : List ℕ) (ts : List Task) (hs : List Head) (heads_are : hs ≡ map task_head ts) (all : AllByRecursion (TaskRead bs) ts) (i : ℕ) where
-  pub tasks-past : (marks : List Bool) → length hs ≤ i → marked_in marks (drop i ts) ≡ None
-  tasks-past marks h = at_drop_all (marked_in marks) ts i (omega (arith, ap length heads_are ∙ length-map ts task_head))
+  pub tasks_past : (marks : List Bool) → length hs ≤ i → marked_in marks (drop i ts) ≡ None
+  tasks_past marks h = at_drop_all (marked_in marks) ts i (omega (arith, ap length heads_are ∙ length-map ts task_head))
 
   module _ (inside : i < length hs) where
     low : i < length ts
@@ -42,8 +42,8 @@ module _ (bs : List ℕ) (ts : List Task) (hs : List Head) (heads_are : hs ≡ m
         unfolding task_at
         step = at_drop_more (marked_in marks) ts i no_task low ∙ (λ j. or_next (sym task_head_lem j) (sym found j) (marked_in marks (drop (i + 1) ts)))
 
-        pub block-found : (x : Head) → o ≡ Some x → marked_in marks (drop i ts) ≡ Some (h, x)
-        block-found x e = step ∙ ap (λ y. or_next h y (marked_in marks (drop (i + 1) ts))) e
+        pub block_found : (x : Head) → o ≡ Some x → marked_in marks (drop i ts) ≡ Some (h, x)
+        block_found x e = step ∙ ap (λ y. or_next h y (marked_in marks (drop (i + 1) ts))) e
 
         pub block_none : o ≡ None → marked_in marks (drop (i + 1) ts) ≡ marked_in marks (drop i ts)
         block_none e = sym (step ∙ ap (λ y. or_next h y (marked_in marks (drop (i + 1) ts))) e)

@@ -10,7 +10,7 @@ use Rattle.reading.specs.declared.heads.Head.{Head}
 use Rattle.listing.specs.declared.calls.Calls.{Calls}
 use Rattle.commands.specs.Commands.{answer, after}
 use Rattle.reading.specs.Heads.{head, used}
-use Rattle.listing.specs.Calls.{by_call, calls-turn, calls_from, first_unknown, or_else, CallsTold}
+use Rattle.listing.specs.Calls.{by_call, calls_turn, calls_from, first_unknown, or_else, CallsTold}
 
 -- neither a call nor the end of a routine
 no_call : {X : Type 0} (c : Command) (f : ℕ → X) (e x : X) → ((n : ℕ) → c ≡ Call n → ⊥) → (c ≡ EndRoutine → ⊥) → by_call f e x c ≡ x
@@ -47,10 +47,10 @@ pub record Noting (known whole : List Head) (bs : List ℕ) (r : Calls) (place :
   pub enough : length bs ≤ place + left
   pub long : length r.marks ≡ 256
   pub marks_are : (c : ℕ) → c < 256 → (get_or r.marks c false || used c (calls_from bs (suc left) place)) ≡ used c whole
-  pub unknown-is : or_else r.unknown (first_unknown known (calls_from bs (suc left) place)) ≡ first_unknown known whole
+  pub unknown_is : or_else r.unknown (first_unknown known (calls_from bs (suc left) place)) ≡ first_unknown known whole
 
-more-marks : (ms : List Bool) (k at c : ℕ) (rest : List Head) → length ms ≡ 256 → k < 256 → (get_or (set ms k true) c false || used c rest) ≡ (get_or ms c false || used c (head k at ∷ rest))
-more-marks ms k at c rest long h =
+more_marks : (ms : List Bool) (k at c : ℕ) (rest : List Head) → length ms ≡ 256 → k < 256 → (get_or (set ms k true) c false || used c rest) ≡ (get_or ms c false || used c (head k at ∷ rest))
+more_marks ms k at c rest long h =
     ⊎_elim
     (λ e.
     let inside : k < length ms = omega arith in
@@ -61,64 +61,64 @@ more-marks ms k at c rest long h =
     ap (λ b. b || used c rest) (get_or-set_other ms k c true false ne) ∙ ap (λ b. get_or ms c false || b) (sym (cond-false _ _ _ (ne_eqb k c e))))
     (cases_eq k c)
 
-more-unknown : (known : List Head) (o : Option Head) (h : Head) (rest : List Head) → or_else (or_else o (first_unknown known (h ∷ []))) (first_unknown known rest) ≡ or_else o (first_unknown known (h ∷ rest))
-more-unknown known (Some x) h rest = refl
-more-unknown known None h rest =
+more_unknown : (known : List Head) (o : Option Head) (h : Head) (rest : List Head) → or_else (or_else o (first_unknown known (h ∷ []))) (first_unknown known rest) ≡ or_else o (first_unknown known (h ∷ rest))
+more_unknown known (Some x) h rest = refl
+more_unknown known None h rest =
     ⊎_elim
     (λ e. ap (λ o. or_else o (first_unknown known rest)) (cond-true _ _ _ e) ∙ sym (cond-true _ _ _ e))
     (λ e. ap (λ o. or_else o (first_unknown known rest)) (cond-false _ _ _ e) ∙ sym (cond-false _ _ _ e))
     (cases_Bool (used h.code known))
 
 module _ (known whole : List Head) (bs : List ℕ) (r : Calls) (place : ℕ) (g : Noting known whole bs r place) where
-  rest-is : {a : _} → answer Body bs place ≡ a → calls_from bs (suc g.left) place ≡ calls-turn (calls_from bs g.left (after Body bs place)) a
+  rest_is : {a : _} → answer Body bs place ≡ a → calls_from bs (suc g.left) place ≡ calls_turn (calls_from bs g.left (after Body bs place)) a
   unfolding calls_from
-  rest-is e = ap (calls-turn (calls_from bs g.left (after Body bs place))) e
+  rest_is e = ap (calls_turn (calls_from bs g.left (after Body bs place))) e
 
   all_noted : calls_from bs (suc g.left) place ≡ [] → CallsTold known whole r
   all_noted e =
       record {
         wide = g.long;
         marks = λ c h. sym (or_false (get_or r.marks c false)) ∙ ap (λ hs. get_or r.marks c false || used c hs) (sym e) ∙ g.marks_are c h;
-        unknown = sym (or_else_none r.unknown) ∙ ap (λ hs. or_else r.unknown (first_unknown known hs)) (sym e) ∙ g.unknown-is;
+        unknown = sym (or_else_none r.unknown) ∙ ap (λ hs. or_else r.unknown (first_unknown known hs)) (sym e) ∙ g.unknown_is;
       }
 
   pub noted_fault : (f : ReadFault) → answer Body bs place ≡ Err f → CallsTold known whole r
-  noted_fault f e = all_noted (rest-is e)
+  noted_fault f e = all_noted (rest_is e)
 
   pub noted_none : answer Body bs place ≡ Ok None → CallsTold known whole r
-  noted_none e = all_noted (rest-is e)
+  noted_none e = all_noted (rest_is e)
 
   module _ (at : ℕ) (c : Command) (e : answer Body bs place ≡ Ok (Some (at, c))) where
     pub noted_all : c ≡ EndRoutine → CallsTold known whole r
-    noted_all h = all_noted (rest-is e ∙ ap (by_call _ _ _) h)
+    noted_all h = all_noted (rest_is e ∙ ap (by_call _ _ _) h)
 
     module _ (q : ℕ) (on : q ≡ after Body bs place) (forth : place < q) (inside : place < length bs) where
       some : g.left ≡ suc (g.left - 1)
       some = omega (arith, g.enough)
 
-      rest-on : calls_from bs g.left (after Body bs place) ≡ calls_from bs (suc (g.left - 1)) q
-      rest-on i = calls_from bs (some i) (sym on i)
+      rest_on : calls_from bs g.left (after Body bs place) ≡ calls_from bs (suc (g.left - 1)) q
+      rest_on i = calls_from bs (some i) (sym on i)
 
       pub note_other : ((n : ℕ) → c ≡ Call n → ⊥) → (c ≡ EndRoutine → ⊥) → Noting known whole bs r q
       note_other h k =
-          let e : calls_from bs (suc (g.left - 1)) q ≡ calls_from bs (suc g.left) place = sym (rest-is e ∙ no_call c _ _ _ h k ∙ rest-on) in
+          let e : calls_from bs (suc (g.left - 1)) q ≡ calls_from bs (suc g.left) place = sym (rest_is e ∙ no_call c _ _ _ h k ∙ rest_on) in
           record {
             left = g.left - 1;
             enough = omega (arith, g.enough);
             long = g.long;
             marks_are = λ c h. ap (λ hs. get_or r.marks c false || used c hs) e ∙ g.marks_are c h;
-            unknown-is = ap (λ hs. or_else r.unknown (first_unknown known hs)) e ∙ g.unknown-is;
+            unknown_is = ap (λ hs. or_else r.unknown (first_unknown known hs)) e ∙ g.unknown_is;
           }
 
       pub note_call : (k : ℕ) → c ≡ Call k → k < 256 → (s : Calls) → s.marks ≡ set r.marks k true → s.unknown ≡ or_else r.unknown (first_unknown known (head k at ∷ [])) → Noting known whole bs s q
       note_call k h small s marks-now unknown-now =
-          let e : head k at ∷ calls_from bs (suc (g.left - 1)) q ≡ calls_from bs (suc g.left) place = sym (rest-is e ∙ ap (by_call _ _ _) h ∙ ap (λ hs. head k at ∷ hs) rest-on) in
+          let e : head k at ∷ calls_from bs (suc (g.left - 1)) q ≡ calls_from bs (suc g.left) place = sym (rest_is e ∙ ap (by_call _ _ _) h ∙ ap (λ hs. head k at ∷ hs) rest_on) in
           record {
             left = g.left - 1;
             enough = omega (arith, g.enough);
             long = ap length marks-now ∙ length-set r.marks k true ∙ g.long;
-            marks_are = λ c h. ap (λ ms. get_or ms c false || used c (calls_from bs (suc (g.left - 1)) q)) marks-now ∙ more-marks r.marks k at c _ g.long small ∙ ap (λ hs. get_or r.marks c false || used c hs) e ∙ g.marks_are c h;
-            unknown-is = ap (λ o. or_else o (first_unknown known (calls_from bs (suc (g.left - 1)) q))) unknown-now ∙ more-unknown known r.unknown (head k at) _ ∙ ap (λ hs. or_else r.unknown (first_unknown known hs)) e ∙ g.unknown-is;
+            marks_are = λ c h. ap (λ ms. get_or ms c false || used c (calls_from bs (suc (g.left - 1)) q)) marks-now ∙ more_marks r.marks k at c _ g.long small ∙ ap (λ hs. get_or r.marks c false || used c hs) e ∙ g.marks_are c h;
+            unknown_is = ap (λ o. or_else o (first_unknown known (calls_from bs (suc (g.left - 1)) q))) unknown-now ∙ more_unknown known r.unknown (head k at) _ ∙ ap (λ hs. or_else r.unknown (first_unknown known hs)) e ∙ g.unknown_is;
           }
 
 pub noting : (known : List Head) (bs : List ℕ) (place q : ℕ) (r : Calls) → q ≡ place → r.marks ≡ replicate 256 false → r.unknown ≡ None → Noting known (calls_from bs (suc (length bs)) place) bs r q
@@ -127,5 +127,5 @@ noting known bs place q r on m u = subst (λ p. Noting known (calls_from bs (suc
   enough = omega arith;
   long = ap length m;
   marks_are = λ c h. ap (λ b. b || used c (calls_from bs (suc (length bs)) place)) (ap (λ ms. get_or ms c false) m ∙ get_or-replicate 256 c false false h);
-  unknown-is = ap (λ o. or_else o (first_unknown known (calls_from bs (suc (length bs)) place))) u;
+  unknown_is = ap (λ o. or_else o (first_unknown known (calls_from bs (suc (length bs)) place))) u;
 })

@@ -54,8 +54,8 @@ zeros (suc n) zero = refl
 zeros (suc n) (suc c) = zeros n c
 
 -- no routine is costed yet
-pub none-costed : (of : ℕ → ℕ) (rs : List Routine) (n : ℕ) → length rs ≤ n → Capped (replicate 256 0) (cost_by of (drop n rs))
-none-costed of rs n h =
+pub none_costed : (of : ℕ → ℕ) (rs : List Routine) (n : ℕ) → length rs ≤ n → Capped (replicate 256 0) (cost_by of (drop n rs))
+none_costed of rs n h =
     record { wide = refl; says = λ c _. zeros 256 c ∙ sym (ap (λ f. min f 1000001) (at_drop_all (λ l. cost_by of l c) rs n h)) }
 
 module _ (bs : List ℕ) (of : ℕ → ℕ) (rs : List Routine) (hs : List Head) (heads_are : hs ≡ map routine_head rs) (bodies : AllByRecursion (BodyRead bs) rs) (i : ℕ) (some : 0 < i) (inside : i ≤ length hs) where
@@ -65,24 +65,24 @@ module _ (bs : List ℕ) (of : ℕ → ℕ) (rs : List Routine) (hs : List Head)
   it : Routine
   it = get_or rs (i - 1) no_routine
 
-  it-read : BodyRead bs it
+  it_read : BodyRead bs it
   unfolding it
-  it-read = All-get_or (BodyRead bs) rs (i - 1) no_routine low bodies
+  it_read = All-get_or (BodyRead bs) rs (i - 1) no_routine low bodies
 
   module _ (h : Head) (is : h ≡ get_or hs (i - 1) (head 0 0)) where
-    head-is : h ≡ routine_head it
+    head_is : h ≡ routine_head it
     unfolding it
-    head-is = is ∙ ap (λ l. get_or l (i - 1) (head 0 0)) heads_are ∙ get_or-map routine_head rs (i - 1) no_routine (head 0 0) low
+    head_is = is ∙ ap (λ l. get_or l (i - 1) (head 0 0)) heads_are ∙ get_or-map routine_head rs (i - 1) no_routine (head 0 0) low
 
     -- one more routine is costed
-    pub one-costed : (table : List ℕ) (cost : ℕ) → h.code < 256 → ((e : Ended) → run_at 9 bs h.at (after Top bs h.at) ≡ Ok e → cost ≡ min (run_cost of e.run) 1000001) → Capped table (cost_by of (drop i rs)) → Capped (set table h.code cost) (cost_by of (drop (i - 1) rs))
+    pub one_costed : (table : List ℕ) (cost : ℕ) → h.code < 256 → ((e : Ended) → run_at 9 bs h.at (after Top bs h.at) ≡ Ok e → cost ≡ min (run_cost of e.run) 1000001) → Capped table (cost_by of (drop i rs)) → Capped (set table h.code cost) (cost_by of (drop (i - 1) rs))
     unfolding it
-    one-costed table cost small told g =
-        let code_is : h.code ≡ it.code = ap (λ (x : Head). x.code) head-is in
-        let at-is : h.at ≡ it.at = ap (λ (x : Head). x.at) head-is in
-        let b = it-read in
+    one_costed table cost small told g =
+        let code_is : h.code ≡ it.code = ap (λ (x : Head). x.code) head_is in
+        let at_is : h.at ≡ it.at = ap (λ (x : Head). x.at) head_is in
+        let b = it_read in
         let e : Ended = b.ended in
-        let cost-is : cost ≡ min (run_cost of it.body) 1000001 = told e (ap (λ p. run_at 9 bs p (after Top bs p)) at-is ∙ b.run_is) ∙ ap (λ r. min (run_cost of r) 1000001) b.body_is in
+        let cost_is : cost ≡ min (run_cost of it.body) 1000001 = told e (ap (λ p. run_at 9 bs p (after Top bs p)) at_is ∙ b.run_is) ∙ ap (λ r. min (run_cost of r) 1000001) b.body_is in
         let on : (i - 1) + 1 ≡ i = omega arith in
         let room : h.code < length table = omega (arith, g.wide) in
         let step : (c : ℕ) → cost_by of (drop (i - 1) rs) c ≡ cost_by of (it ∷ drop i rs) c = λ c. at_drop_more (λ l. cost_by of l c) rs (i - 1) no_routine low ∙ ap (λ n. cost_by of (it ∷ drop n rs) c) on in
@@ -90,7 +90,7 @@ module _ (bs : List ℕ) (of : ℕ → ℕ) (rs : List Routine) (hs : List Head)
           wide = length-set table h.code cost ∙ g.wide;
           says = λ c small-c. ⊎_elim
               (λ same.
-              ap (λ m. get_or (set table h.code cost) m 0) (sym same) ∙ get_or-set_same table h.code cost 0 room ∙ cost-is
+              ap (λ m. get_or (set table h.code cost) m 0) (sym same) ∙ get_or-set_same table h.code cost 0 room ∙ cost_is
               ∙ sym (ap (λ n. min n 1000001) (step c ∙ cond-true _ _ _ (eq-eqb it.code c (sym code_is ∙ same)))))
               (λ other.
               let ne : c ≢ h.code = λ q. other (sym q) in
@@ -99,22 +99,22 @@ module _ (bs : List ℕ) (of : ℕ → ℕ) (rs : List Routine) (hs : List Head)
         }
 
 -- a routine's code is a byte
-pub small-code : (bs : List ℕ) (r : Routine) → BodyRead bs r → r.code < 256
-small-code bs r b = small_routine Top bs r.at r.at r.code b.command_is
+pub small_code : (bs : List ℕ) (r : Routine) → BodyRead bs r → r.code < 256
+small_code bs r b = small_routine Top bs r.at r.at r.code b.command_is
 
 no_cost : (of : ℕ → ℕ) (bs : List ℕ) (rs : List Routine) (c : ℕ) → AllByRecursion (BodyRead bs) rs → 256 ≤ c → cost_by of rs c ≡ 0
 no_cost of bs [] c all h = refl
 no_cost of bs (r ∷ rs) c all h =
-    cond-false _ _ _ (ne_eqb r.code c (λ e. absurd (omega (arith, small-code bs r all.0)))) ∙ no_cost of bs rs c all.1 h
+    cond-false _ _ _ (ne_eqb r.code c (λ e. absurd (omega (arith, small_code bs r all.0)))) ∙ no_cost of bs rs c all.1 h
 
 no_cost_in : (bs : List ℕ) (rs : List Routine) (k c : ℕ) → AllByRecursion (BodyRead bs) rs → 256 ≤ c → cost_in rs k c ≡ 0
 unfolding cost_in
 no_cost_in bs rs zero c all h = refl
 no_cost_in bs rs (suc k) c all h = no_cost (cost_in rs k) bs rs c all h
 
-pub first-costs : (rs : List Routine) → Capped (replicate 256 0) (cost_in rs 0)
+pub first_costs : (rs : List Routine) → Capped (replicate 256 0) (cost_in rs 0)
 unfolding cost_in
-first-costs rs = record { wide = refl; says = λ c _. zeros 256 c }
+first_costs rs = record { wide = refl; says = λ c _. zeros 256 c }
 
 -- one pass more
 pub pass_more : (bs : List ℕ) (rs : List Routine) (k : ℕ) (costs table : List ℕ) → AllByRecursion (BodyRead bs) rs → Capped costs (cost_in rs k) → Capped table (cost_by (cost_of_code costs) rs) → Capped table (cost_in rs (k + 1))

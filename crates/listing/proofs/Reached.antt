@@ -82,8 +82,8 @@ module _ (rs : List Routine) where
   pub not_cyclic : (i : ℕ) → reach_table rs i (code_of rs i) ≡ false → Cyclic rs i → ⊥
   not_cyclic i e p = both_ways _ e (complete p)
 
-  pub is-cyclic : (i : ℕ) → reach_table rs i (code_of rs i) ≡ true → Cyclic rs i
-  is-cyclic i e = sound (length rs) (omega arith) i (code_of rs i) e
+  pub is_cyclic : (i : ℕ) → reach_table rs i (code_of rs i) ≡ true → Cyclic rs i
+  is_cyclic i e = sound (length rs) (omega arith) i (code_of rs i) e
 
 earlier : (t : Table) (k : ℕ) (x : Head) (xs : List Head) → t k x.code ≡ false → (n : ℕ) → ((j : ℕ) → j < n → t ((k + 1) + j) (get_or xs j (head 0 0)).code ≡ false) → (j : ℕ) → j < suc n → t (k + j) (get_or (x ∷ xs) j (head 0 0)).code ≡ false
 earlier t k x xs m n all zero h = ap (λ i. t i x.code) (add-zero k) ∙ m
@@ -155,17 +155,17 @@ count_lt p q (suc n) m h l a b =
     omega arith)
     (cases_lt m n)
 
-count-all : (n : ℕ) → count (λ _. true) n ≡ n
-count-all zero = refl
-count-all (suc n) = omega (arith, count-all n)
+count_all : (n : ℕ) → count (λ _. true) n ≡ n
+count_all zero = refl
+count_all (suc n) = omega (arith, count_all n)
 
 -- a run's cost hangs on the costs of its calls alone
-used-left : (c : ℕ) (xs ys : List Head) → used c xs ≡ true → used c (xs ++ ys) ≡ true
-used-left c [] ys e = absurd (both_ways _ refl (sym (sym e)))
-used-left c (x ∷ xs) ys e =
+used_left : (c : ℕ) (xs ys : List Head) → used c xs ≡ true → used c (xs ++ ys) ≡ true
+used_left c [] ys e = absurd (both_ways _ refl (sym (sym e)))
+used_left c (x ∷ xs) ys e =
     ⊎_elim
     (λ m. cond-true _ _ _ m)
-    (λ m. cond-false _ _ _ m ∙ used-left c xs ys (sym (cond-false _ _ _ m) ∙ e))
+    (λ m. cond-false _ _ _ m ∙ used_left c xs ys (sym (cond-false _ _ _ m) ∙ e))
     (cases_Bool (eqb x.code c))
 
 used_right : (c : ℕ) (xs ys : List Head) → used c ys ≡ true → used c (xs ++ ys) ≡ true
@@ -178,16 +178,16 @@ module _ (of by : ℕ → ℕ) where
     same_item : (i : Item) → ((c : ℕ) → used c (calls_item i) ≡ true → of c ≡ by c) → item_cost of i ≡ item_cost by i
     same_item (work t) h = refl
     same_item (call at c) h = h c (cond-true _ _ _ (eq-eqb c c refl))
-    same_item (either a) h = same-arms a h
-    same_item (repeat k r) h = ap (λ n. k * n) (same-run r h)
+    same_item (either a) h = same_arms a h
+    same_item (repeat k r) h = ap (λ n. k * n) (same_run r h)
 
-    same-run : (r : Run) → ((c : ℕ) → used c (calls_run r) ≡ true → of c ≡ by c) → run_cost of r ≡ run_cost by r
-    same-run done h = refl
-    same-run (next i r) h = (λ j. same_item i (λ c e. h c (used-left c (calls_item i) (calls_run r) e)) j + same-run r (λ c e. h c (used_right c (calls_item i) (calls_run r) e)) j)
+    same_run : (r : Run) → ((c : ℕ) → used c (calls_run r) ≡ true → of c ≡ by c) → run_cost of r ≡ run_cost by r
+    same_run done h = refl
+    same_run (next i r) h = (λ j. same_item i (λ c e. h c (used_left c (calls_item i) (calls_run r) e)) j + same_run r (λ c e. h c (used_right c (calls_item i) (calls_run r) e)) j)
 
-    same-arms : (a : Arms) → ((c : ℕ) → used c (calls_arms a) ≡ true → of c ≡ by c) → cost_arms of a ≡ cost_arms by a
-    same-arms (one r) h = same-run r h
-    same-arms (more r a) h = (λ j. max (same-run r (λ c e. h c (used-left c (calls_run r) (calls_arms a) e)) j) (same-arms a (λ c e. h c (used_right c (calls_run r) (calls_arms a) e)) j))
+    same_arms : (a : Arms) → ((c : ℕ) → used c (calls_arms a) ≡ true → of c ≡ by c) → cost_arms of a ≡ cost_arms by a
+    same_arms (one r) h = same_run r h
+    same_arms (more r a) h = (λ j. max (same_run r (λ c e. h c (used_left c (calls_run r) (calls_arms a) e)) j) (same_arms a (λ c e. h c (used_right c (calls_run r) (calls_arms a) e)) j))
 
 -- the routine that gives a code its cost, if there is one
 record Gives (rs : List Routine) (c : ℕ) : Type 0 where
@@ -196,17 +196,17 @@ record Gives (rs : List Routine) (c : ℕ) : Type 0 where
   code_is : code_of rs index ≡ c
   body : Run
   calls_are : get_or (call_lists rs) index [] ≡ calls_run body
-  cost-is : (of : ℕ → ℕ) → cost_by of rs c ≡ run_cost of body
+  cost_is : (of : ℕ → ℕ) → cost_by of rs c ≡ run_cost of body
 
 gives : (rs : List Routine) (c : ℕ) → ((of : ℕ → ℕ) → cost_by of rs c ≡ 0) ⊎ Gives rs c
 gives [] c = inl (λ of. refl)
 gives (r ∷ rs) c =
     ⊎_elim
-    (λ e. inr (record { index = 0; inside = omega arith; code_is = e; body = r.body; calls_are = refl; cost-is = λ of. cond-true _ _ _ (eq-eqb _ c e) }))
+    (λ e. inr (record { index = 0; inside = omega arith; code_is = e; body = r.body; calls_are = refl; cost_is = λ of. cond-true _ _ _ (eq-eqb _ c e) }))
     (λ e.
     ⊎_elim
     (λ z. inl (λ of. cond-false _ _ _ (ne_eqb _ c e) ∙ z of))
-    (λ (g : Gives rs c). inr (record { index = suc g.index; inside = omega (arith, g.inside); code_is = g.code_is; body = g.body; calls_are = g.calls_are; cost-is = λ of. cond-false _ _ _ (ne_eqb _ c e) ∙ g.cost-is of }))
+    (λ (g : Gives rs c). inr (record { index = suc g.index; inside = omega (arith, g.inside); code_is = g.code_is; body = g.body; calls_are = g.calls_are; cost_is = λ of. cond-false _ _ _ (ne_eqb _ c e) ∙ g.cost_is of }))
     (gives rs c))
     (cases_eq r.code c)
 
@@ -225,7 +225,7 @@ module _ (rs : List Routine) (acyclic : (i : ℕ) → i < length rs → reach_ta
   unfolding rank
   low i h =
       let less = count_lt (λ m. reach_table rs i (code_of rs m)) (λ _. true) (length rs) i (λ m l x. refl) h (acyclic i h) refl in
-      omega (arith, count-all (length rs))
+      omega (arith, count_all (length rs))
 
   settles : (k c : ℕ) → ((g : Gives rs c) → rank g.index < k) → cost_in rs k c ≡ cost_in rs (suc k) c
   unfolding cost_in
@@ -234,12 +234,12 @@ module _ (rs : List Routine) (acyclic : (i : ℕ) → i < length rs → reach_ta
       ⊎_elim
       (λ z. z (cost_in rs k) ∙ sym (z (cost_in rs (suc k))))
       (λ (g : Gives rs c).
-      g.cost-is (cost_in rs k)
-      ∙ same-run (cost_in rs k) (cost_in rs (suc k)) g.body
+      g.cost_is (cost_in rs k)
+      ∙ same_run (cost_in rs k) (cost_in rs (suc k)) g.body
       (λ d e. settles k d (λ (f : Gives rs d).
       let made : table_of (call_lists rs) g.index (code_of rs f.index) ≡ true = ap (λ l. used (code_of rs f.index) l) g.calls_are ∙ ap (λ n. used n (calls_run g.body)) f.code_is ∙ e in
       omega (arith, h g, falls g.index f.index g.inside f.inside made)))
-      ∙ sym (g.cost-is (cost_in rs (suc k))))
+      ∙ sym (g.cost_is (cost_in rs (suc k))))
       (gives rs c)
 
   pub true_costs : length rs ≤ 32 → TrueCosts rs (cost_in rs 32)
@@ -260,16 +260,16 @@ module _ (bs : List ℕ) (l : Listing) (is : listing bs ≡ Ok l) (few : length 
       let free : (i : ℕ) → i < length rs → reach_table rs i (code_of rs i) ≡ false = λ i h. ap (λ n. reach_table rs n (code_of rs i)) (sym (zero-add i)) ∙ none_of (reach_table rs) 0 (map routine_head rs) e i (omega (arith, length-map rs routine_head)) in
       record { acyclic = λ i h p. not_cyclic rs i (free i h) p; costs = true_costs rs free few }
 
-  told-first : (h : Head) (at c : ℕ) → cycle_from (reach_table rs) 0 (map routine_head rs) ≡ Some h → at ≡ h.at → c ≡ h.code → FirstCycle rs at c
+  told_first : (h : Head) (at c : ℕ) → cycle_from (reach_table rs) 0 (map routine_head rs) ≡ Some h → at ≡ h.at → c ≡ h.code → FirstCycle rs at c
   unfolding rs
-  told-first h at c e x y =
+  told_first h at c e x y =
       let f = first_of (reach_table rs) 0 (map routine_head rs) h e in
       let code_is : code_of rs f.index ≡ h.code = ap (λ (z : Head). z.code) f.told in
       record {
         index = f.index;
         inside = omega (arith, f.inside, length-map rs routine_head);
         told = f.told ∙ (λ i. head (sym y i) (sym x i));
-        cyclic = is-cyclic rs f.index (ap (λ n. reach_table rs n (code_of rs f.index)) (sym (zero-add f.index)) ∙ ap (λ n. reach_table rs (0 + f.index) n) code_is ∙ f.marked);
+        cyclic = is_cyclic rs f.index (ap (λ n. reach_table rs n (code_of rs f.index)) (sym (zero-add f.index)) ∙ ap (λ n. reach_table rs (0 + f.index) n) code_is ∙ f.marked);
         first = λ j k p. not_cyclic rs j (ap (λ n. reach_table rs n (code_of rs j)) (sym (zero-add j)) ∙ f.before j k) p;
       }
 
@@ -291,18 +291,18 @@ module _ (bs : List ℕ) (l : Listing) (is : listing bs ≡ Ok l) (few : length 
   by_cycle (Some h) (Err (Cycle at c)) n e =
       let x : at ≡ h.at = cc in
       let y : c ≡ h.code = cc in
-      (l, is, told-first h at c n x y)
+      (l, is, told_first h at c n x y)
   by_cycle (Some h) (Err (TooDear at c)) n e = let z : ◌≡◌ {A = ℕ} 0 1 = cc in absurd (omega arith)
 
-  by-unknown : (o : Option Head) (r : Result Costs CostFault) → cost_told r ≡ costs_of (unless o Unknown (unless (cycle_from (reach_table rs) 0 (map routine_head rs)) Cycle (unless (dear_from (cost_in rs 32) (map routine_head rs)) TooDear (Ok l)))) → CycleTold bs r
+  by_unknown : (o : Option Head) (r : Result Costs CostFault) → cost_told r ≡ costs_of (unless o Unknown (unless (cycle_from (reach_table rs) 0 (map routine_head rs)) Cycle (unless (dear_from (cost_in rs 32) (map routine_head rs)) TooDear (Ok l)))) → CycleTold bs r
   unfolding rs
-  by-unknown None r e = by_cycle _ r refl e
-  by-unknown (Some h) (Ok k) e = clash (sym e)
-  by-unknown (Some h) (Err (Read f)) e = tt
-  by-unknown (Some h) (Err (Unknown at c)) e = tt
-  by-unknown (Some h) (Err (Cycle at c)) e = let z : ◌≡◌ {A = ℕ} 0 1 = cc in absurd (omega arith)
-  by-unknown (Some h) (Err (TooDear at c)) e = let z : ◌≡◌ {A = ℕ} 0 1 = cc in absurd (omega arith)
+  by_unknown None r e = by_cycle _ r refl e
+  by_unknown (Some h) (Ok k) e = clash (sym e)
+  by_unknown (Some h) (Err (Read f)) e = tt
+  by_unknown (Some h) (Err (Unknown at c)) e = tt
+  by_unknown (Some h) (Err (Cycle at c)) e = let z : ◌≡◌ {A = ℕ} 0 1 = cc in absurd (omega arith)
+  by_unknown (Some h) (Err (TooDear at c)) e = let z : ◌≡◌ {A = ℕ} 0 1 = cc in absurd (omega arith)
 
   pub cycles_told : (r : Result Costs CostFault) → cost_told r ≡ costs_of (costing bs) → CycleTold bs r
   unfolding rs costing
-  cycles_told r e = by-unknown _ r (e ∙ ap (λ x. costs_of (judged_after x)) is)
+  cycles_told r e = by_unknown _ r (e ∙ ap (λ x. costs_of (judged_after x)) is)

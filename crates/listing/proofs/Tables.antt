@@ -58,8 +58,8 @@ pub record Filling (known : List Head) (lists : List (List Head)) (rows : List (
   pub unknown : unknown_in known (drop i lists) ≡ unknown_in known lists
 
 module _ (known : List Head) (lists : List (List Head)) (rows : List (List Bool)) (i : ℕ) (g : Filling known lists rows i) where
-  pub filled-all : length lists ≤ i → i ≤ 32 → Tabled rows (table_of lists) × (unknown_in known lists ≡ None)
-  filled-all h few = (
+  pub filled_all : length lists ≤ i → i ≤ 32 → Tabled rows (table_of lists) × (unknown_in known lists ≡ None)
+  filled_all h few = (
     record {
       wide = g.wide;
       says = λ j c _ k. ⊎_elim (λ below. g.filled j c below k) (λ above. g.empty j c above ∙ sym (ap (used c) (get_or_past lists j [] (omega arith)))) (cases_lt j i);
@@ -68,11 +68,11 @@ module _ (known : List Head) (lists : List (List Head)) (rows : List (List Bool)
   )
 
   module _ (h : i < length lists) (few : i < 32) (hs : List Head) (is : hs ≡ get_or lists i []) (r : Calls) (t : CallsTold known hs r) where
-    unknown-step : unknown_in known lists ≡ or_else (first_unknown known hs) (unknown_in known (drop (i + 1) lists))
-    unknown-step = sym g.unknown ∙ at_drop_more (unknown_in known) lists i [] h ∙ ap (λ l. or_else (first_unknown known l) (unknown_in known (drop (i + 1) lists))) (sym is)
+    unknown_step : unknown_in known lists ≡ or_else (first_unknown known hs) (unknown_in known (drop (i + 1) lists))
+    unknown_step = sym g.unknown ∙ at_drop_more (unknown_in known) lists i [] h ∙ ap (λ l. or_else (first_unknown known l) (unknown_in known (drop (i + 1) lists))) (sym is)
 
-    pub unknown-found : (x : Head) → r.unknown ≡ Some x → unknown_in known lists ≡ Some x
-    unknown-found x e = unknown-step ∙ ap (λ o. or_else o (unknown_in known (drop (i + 1) lists))) (sym t.unknown ∙ e)
+    pub unknown_found : (x : Head) → r.unknown ≡ Some x → unknown_in known lists ≡ Some x
+    unknown_found x e = unknown_step ∙ ap (λ o. or_else o (unknown_in known (drop (i + 1) lists))) (sym t.unknown ∙ e)
 
     pub fill_more : r.unknown ≡ None → Filling known lists (set rows i r.marks) (i + 1)
     fill_more e =
@@ -88,7 +88,7 @@ module _ (known : List Head) (lists : List (List Head)) (rows : List (List Bool)
               (λ other. let ne : j ≢ i = other in let below : j < i = omega arith in ap (λ row. get_or row c false) (get_or-set_other rows i j r.marks [] ne) ∙ g.filled j c below l)
               (cases_eq j i);
           empty = λ j c k. let ne : j ≢ i = omega arith in ap (λ row. get_or row c false) (get_or-set_other rows i j r.marks [] ne) ∙ g.empty j c (omega arith);
-          unknown = sym (unknown-step ∙ ap (λ o. or_else o (unknown_in known (drop (i + 1) lists))) (sym t.unknown ∙ e));
+          unknown = sym (unknown_step ∙ ap (λ o. or_else o (unknown_in known (drop (i + 1) lists))) (sym t.unknown ∙ e));
         }
 
 pub none_filled : (known : List Head) (lists : List (List Head)) → Filling known lists (replicate 32 (replicate 256 false)) 0

@@ -9,15 +9,15 @@ use Rattle.commands.specs.Commands.{answer, after}
 use Rattle.reading.specs.Heads.{head}
 use Rattle.reading.specs.Trees.{Item, work, call, either, repeat, Run, done, next, Arms, one, more, Routine, calls_item, calls_run, calls_arms}
 use Rattle.reading.specs.Runs.{Ended}
-use Rattle.listing.specs.Calls.{by_call, calls-turn, calls_from, calls_at}
-use Rattle.commands.proofs.Inverted.{Written, read-written}
-use Rattle.reading.proofs.Spelled.{Cmd, ReadsItem, ReadsRun, ReadsArms, Reads, run-reads}
+use Rattle.listing.specs.Calls.{by_call, calls_turn, calls_from, calls_at}
+use Rattle.commands.proofs.Inverted.{Written, read_written}
+use Rattle.reading.proofs.Spelled.{Cmd, ReadsItem, ReadsRun, ReadsArms, Reads, run_reads}
 use Rattle.reading.specs.Bodies.{BodyRead}
 
 -- a command takes the walk on
 cmd_on : (bs : List ℕ) (p : ℕ) (c : Command) (q : ℕ) → Cmd bs p c q → (p < q) × (p < length bs)
 cmd_on bs p c q k =
-    let w = read-written Body bs p p c k.0 in
+    let w = read_written Body bs p p c k.0 in
     let x : Written Body (drop p bs) c w.0 = w.1 in
     let l = ap length x.bytes_are in
     (omega (arith, x.size_is, w.2, k.1), omega (arith, l, length-drop p bs))
@@ -40,36 +40,36 @@ cmd_goes bs n p c q calls long k rule =
     record {
       fuel = n - 1;
       enough = omega arith;
-      meets = ap (calls-turn (calls_from bs n (after Body bs p))) k.0 ∙ rule (calls_from bs n (after Body bs p)) ∙ (λ i. calls ++ calls_from bs (some i) (k.1 i));
+      meets = ap (calls_turn (calls_from bs n (after Body bs p))) k.0 ∙ rule (calls_from bs n (after Body bs p)) ∙ (λ i. calls ++ calls_from bs (some i) (k.1 i));
     }
 
 mutual
-  item-goes : (i : Item) (bs : List ℕ) (n p q : ℕ) → length bs ≤ p + n → ReadsItem bs p i q → Goes bs n p (calls_item i) q
-  item-goes (work t) bs n p q long r = cmd_goes bs n p (Work t) q [] long r (λ rest. refl)
-  item-goes (call at c) bs n p q long r = cmd_goes bs n p (Call c) q (head c at ∷ []) long r.1 (λ rest. ap (λ x. head c x ∷ rest) (sym r.0))
-  item-goes (either a) bs n p q long r =
+  item_goes : (i : Item) (bs : List ℕ) (n p q : ℕ) → length bs ≤ p + n → ReadsItem bs p i q → Goes bs n p (calls_item i) q
+  item_goes (work t) bs n p q long r = cmd_goes bs n p (Work t) q [] long r (λ rest. refl)
+  item_goes (call at c) bs n p q long r = cmd_goes bs n p (Call c) q (head c at ∷ []) long r.1 (λ rest. ap (λ x. head c x ∷ rest) (sym r.0))
+  item_goes (either a) bs n p q long r =
       let g = cmd_goes bs n p Either r.0 [] long r.1 (λ rest. refl) in
       goes_on bs n p r.0 q [] (calls_arms a) g (arms_goes a bs g.fuel r.0 q g.enough r.2)
-  item-goes (repeat k b) bs n p q long r =
+  item_goes (repeat k b) bs n p q long r =
       let g = cmd_goes bs n p (Repeat k) r.0 [] long r.2 (λ rest. refl) in
-      let h = run-goes b bs g.fuel r.0 r.1 g.enough r.3 in
+      let h = run_goes b bs g.fuel r.0 r.1 g.enough r.3 in
       let j = cmd_goes bs h.fuel r.1 EndRepeat q [] h.enough r.4 (λ rest. refl) in
       let both = goes_on bs g.fuel r.0 r.1 q (calls_run b) [] h j in
       subst (λ l. Goes bs n p l q) (append-nil (calls_run b)) (goes_on bs n p r.0 q [] (calls_run b ++ []) g both)
 
-  run-goes : (b : Run) (bs : List ℕ) (n p q : ℕ) → length bs ≤ p + n → ReadsRun bs p b q → Goes bs n p (calls_run b) q
-  run-goes done bs n p q long r = record { fuel = n; enough = omega arith; meets = ap (calls_from bs (suc n)) r }
-  run-goes (next i b) bs n p q long r =
-      let g = item-goes i bs n p r.0 long r.1 in
-      goes_on bs n p r.0 q (calls_item i) (calls_run b) g (run-goes b bs g.fuel r.0 q g.enough r.2)
+  run_goes : (b : Run) (bs : List ℕ) (n p q : ℕ) → length bs ≤ p + n → ReadsRun bs p b q → Goes bs n p (calls_run b) q
+  run_goes done bs n p q long r = record { fuel = n; enough = omega arith; meets = ap (calls_from bs (suc n)) r }
+  run_goes (next i b) bs n p q long r =
+      let g = item_goes i bs n p r.0 long r.1 in
+      goes_on bs n p r.0 q (calls_item i) (calls_run b) g (run_goes b bs g.fuel r.0 q g.enough r.2)
 
   arms_goes : (a : Arms) (bs : List ℕ) (n p q : ℕ) → length bs ≤ p + n → ReadsArms bs p a q → Goes bs n p (calls_arms a) q
   arms_goes (one b) bs n p q long r =
-      let g = run-goes b bs n p r.0 long r.1 in
+      let g = run_goes b bs n p r.0 long r.1 in
       let h = cmd_goes bs g.fuel r.0 EndEither q [] g.enough r.2 (λ rest. refl) in
       subst (λ l. Goes bs n p l q) (append-nil (calls_run b)) (goes_on bs n p r.0 q (calls_run b) [] g h)
   arms_goes (more b a) bs n p q long r =
-      let g = run-goes b bs n p r.0 long r.2 in
+      let g = run_goes b bs n p r.0 long r.2 in
       let h = cmd_goes bs g.fuel r.0 Or r.1 [] g.enough r.3 (λ rest. refl) in
       let j = arms_goes a bs h.fuel r.1 q h.enough r.4 in
       goes_on bs n p r.0 q (calls_run b) (calls_arms a) g (goes_on bs g.fuel r.0 r.1 q [] (calls_arms a) h j)
@@ -79,7 +79,7 @@ pub calls_are : (bs : List ℕ) (r : Routine) → BodyRead bs r → calls_at bs 
 unfolding calls_from
 calls_are bs r b =
     let e : Ended = b.ended in
-    let x : Reads bs (after Top bs r.at) e = run-reads 9 bs r.at (after Top bs r.at) e b.run_is in
-    let g = run-goes e.run bs (length bs) (after Top bs r.at) x.0 (omega arith) x.1 in
-    let last : answer Body bs x.0 ≡ Ok (Some (x.0, EndRoutine)) = x.2.0 ∙ ap (λ c. Ok (Some (x.0, c))) b.last-is in
-    g.meets ∙ ap (λ a. calls_run e.run ++ calls-turn (calls_from bs g.fuel (after Body bs x.0)) a) last ∙ append-nil (calls_run e.run) ∙ ap calls_run b.body_is
+    let x : Reads bs (after Top bs r.at) e = run_reads 9 bs r.at (after Top bs r.at) e b.run_is in
+    let g = run_goes e.run bs (length bs) (after Top bs r.at) x.0 (omega arith) x.1 in
+    let last : answer Body bs x.0 ≡ Ok (Some (x.0, EndRoutine)) = x.2.0 ∙ ap (λ c. Ok (Some (x.0, c))) b.last_is in
+    g.meets ∙ ap (λ a. calls_run e.run ++ calls_turn (calls_from bs g.fuel (after Body bs x.0)) a) last ∙ append-nil (calls_run e.run) ∙ ap calls_run b.body_is

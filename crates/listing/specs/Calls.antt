@@ -26,15 +26,15 @@ by_call f e x (Point n m) = x
 by_call f e x EndTask = x
 by_call f e x Sheet = x
 
-abbrev pub calls-turn : List Head → Result (Option (ℕ × Command)) ReadFault → List Head
-calls-turn rest (Ok None) = []
-calls-turn rest (Ok (Some c)) = by_call (λ k. head k c.0 ∷ rest) [] rest c.1
-calls-turn rest (Err f) = []
+abbrev pub calls_turn : List Head → Result (Option (ℕ × Command)) ReadFault → List Head
+calls_turn rest (Ok None) = []
+calls_turn rest (Ok (Some c)) = by_call (λ k. head k c.0 ∷ rest) [] rest c.1
+calls_turn rest (Err f) = []
 
 -- the calls from a place to the end of the routine
 unfoldable pub calls_from : List ℕ → ℕ → ℕ → List Head
 calls_from bs zero place = []
-calls_from bs (suc n) place = calls-turn (calls_from bs n (after Body bs place)) (answer Body bs place)
+calls_from bs (suc n) place = calls_turn (calls_from bs n (after Body bs place)) (answer Body bs place)
 
 -- the calls of the routine at an offset
 abbrev pub calls_at : List ℕ → ℕ → List Head

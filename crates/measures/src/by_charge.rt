@@ -1,5 +1,5 @@
 // The measure that counts ticks, then charge.
-ghost use Rattle.measures.specs.Weights.{no_ticks_charge, join_ticks_charge, fewer_ticks_charge, fewer_ticks_charge-asym, fewer_ticks_charge-chain};
+ghost use Rattle.measures.specs.Weights.{no_ticks_charge, join_ticks_charge, fewer_ticks_charge, fewer_ticks_charge_asym, fewer_ticks_charge_chain};
 ghost use Rattle.std.proofs.Common.{rules};
 
 use crate::measure::Measure;
@@ -12,9 +12,9 @@ impl TotalOrder for TicksCharge {
 
     ghost says = { Prim.search rules };
 
-    ghost asym = { fewer_ticks_charge-asym };
+    ghost asym = { fewer_ticks_charge_asym };
 
-    ghost chain = { fewer_ticks_charge-chain };
+    ghost chain = { fewer_ticks_charge_chain };
 }
 
 impl Measure for TicksCharge {

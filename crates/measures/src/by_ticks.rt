@@ -1,5 +1,5 @@
 // The measure that counts ticks alone.
-ghost use Rattle.measures.specs.Weights.{no_ticks, join_ticks, fewer_ticks, fewer_ticks-asym, fewer_ticks-chain};
+ghost use Rattle.measures.specs.Weights.{no_ticks, join_ticks, fewer_ticks, fewer_ticks_asym, fewer_ticks_chain};
 ghost use Rattle.std.proofs.Common.{rules};
 
 use crate::measure::Measure;
@@ -12,9 +12,9 @@ impl TotalOrder for Ticks {
 
     ghost says = { Prim.search rules };
 
-    ghost asym = { fewer_ticks-asym };
+    ghost asym = { fewer_ticks_asym };
 
-    ghost chain = { fewer_ticks-chain };
+    ghost chain = { fewer_ticks_chain };
 }
 
 impl Measure for Ticks {

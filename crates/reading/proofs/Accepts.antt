@@ -16,10 +16,10 @@ use Rattle.reading.specs.declared.heads.Head.{Head}
 use Rattle.commands.specs.Commands.{row, nothing, code, ticks, turns, period, deadline, word, row_in, low, width_of, numbers_of, holds, within, command_of, a as a-command, front_of_numbers, front_of_row, decode, answered, moved, answer, after}
 use Rattle.reading.specs.Heads.{head}
 use Rattle.reading.specs.Trees.{Item, work, call, either, repeat, Run, done, next, Arms, one, more, Routine, Blocks, final, block, Task, Listing}
-use Rattle.reading.specs.Runs.{Ended, Parsed, Armed, then, by_last, ends, more-arms, arms_by, an_either, a_repeat, item_of, more_items, turn, run_with, run_at}
-use Rattle.reading.specs.Listings.{onward, admit, more-routines, routine_turn, routines_from, more-blocks, after_block, a_block, blocks_from, more-tasks, task_turn, tasks_from, tasks-then, listing}
+use Rattle.reading.specs.Runs.{Ended, Parsed, Armed, then, by_last, ends, more_arms, arms_by, an_either, a_repeat, item_of, more_items, turn, run_with, run_at}
+use Rattle.reading.specs.Listings.{onward, admit, more_routines, routine_turn, routines_from, more_blocks, after_block, a_block, blocks_from, more_tasks, task_turn, tasks_from, tasks_then, listing}
 use Rattle.reading.specs.Encoding.{write, enc_item, enc_run, enc_arms, enc_routines, enc_blocks, enc_tasks, encode}
-use Rattle.reading.proofs.Codes.{codes, used-is, codes_push}
+use Rattle.reading.proofs.Codes.{codes, used_is, codes_push}
 use Rattle.reading.specs.Fitting.{FitsItem, FitsRun, FitsArms, nest_item, nest_run, nest_arms, member, FitsRoutines, FitsBlocks, FitsTasks, Fits}
 
 -- numbers that are written are read back
@@ -50,9 +50,9 @@ record Small (r : Row) (n : Numbers) : Type 0 where
   third : n.third < 256 ^ r.third.width
   fits : within r n ≡ true
 
-numbers-back : (r : Row) (n : Numbers) (rest : List ℕ) → Small r n → numbers_of r (row_bytes r n rest) ≡ n
+numbers_back : (r : Row) (n : Numbers) (rest : List ℕ) → Small r n → numbers_of r (row_bytes r n rest) ≡ n
 unfolding numbers_of
-numbers-back r n rest s =
+numbers_back r n rest s =
     let w1 = r.first.width in
     let w2 = r.second.width in
     let x1 = write w2 n.second (write r.third.width n.third rest) in
@@ -78,7 +78,7 @@ row_given context b r n bs p rest is s e =
     let l3 = long-write r.third.width n.third rest in
     let enough : width_of r ≤ length xs = omega arith in
     let d : decode context (drop p bs) ≡ a-command (command_of r.kind n) (1 + width_of r) =
-    ap (decode context) e ∙ ap (λ o. front_of_row o xs) is ∙ cond-false _ _ _ (le-ltb _ _ enough) ∙ ap (front_of_numbers r) (numbers-back r n rest s) ∙ cond-true _ _ _ s.fits
+    ap (decode context) e ∙ ap (λ o. front_of_row o xs) is ∙ cond-false _ _ _ (le-ltb _ _ enough) ∙ ap (front_of_numbers r) (numbers_back r n rest s) ∙ cond-true _ _ _ s.fits
     in
     let past : drop (width_of r) xs ≡ rest =
     sym (drop-drop r.third.width (r.first.width + r.second.width) xs)
@@ -100,9 +100,9 @@ within_range : (l n t : ℕ) → l ≤ n → n ≤ t → (leb l n && leb n t) �
 within_range l n t a b = and_from (leb l n) (leb n t) (le-leb l n a) (le-leb n t b)
 
 -- commands with one operand, or none
-one-small : (r : Row) (n : ℕ) → n < 256 ^ r.first.width → r.second ≡ nothing → r.third ≡ nothing → holds r.first n ≡ true → Small r (numbers n 0 0)
+one_small : (r : Row) (n : ℕ) → n < 256 ^ r.first.width → r.second ≡ nothing → r.third ≡ nothing → holds r.first n ≡ true → Small r (numbers n 0 0)
 unfolding numbers
-one-small r n h x y f =
+one_small r n h x y f =
     let second_fits = ap (λ o. holds o 0) x in
     let third-fits = ap (λ o. holds o 0) y in
     record {
@@ -115,19 +115,19 @@ one-small r n h x y f =
 module _ (bs : List ℕ) (p : ℕ) (rest : List ℕ) where
   at_code : (context : Context) (b : ℕ) (k : _) → row_in context b ≡ Some (row b k code nothing nothing) → (n : ℕ) → n ≤ 255 → drop p bs ≡ b ∷ write 1 n rest → Given context bs p (command_of k (numbers n 0 0)) rest
   unfolding numbers
-  at_code context b k is n h e = row_given context b (row b k code nothing nothing) (numbers n 0 0) bs p rest is (one-small (row b k code nothing nothing) n (omega arith) refl refl (within_range 0 n 255 (omega arith) h)) e
+  at_code context b k is n h e = row_given context b (row b k code nothing nothing) (numbers n 0 0) bs p rest is (one_small (row b k code nothing nothing) n (omega arith) refl refl (within_range 0 n 255 (omega arith) h)) e
 
   at_bare : (context : Context) (b : ℕ) (k : _) → row_in context b ≡ Some (row b k nothing nothing nothing) → drop p bs ≡ b ∷ rest → Given context bs p (command_of k (numbers 0 0 0)) rest
   unfolding numbers
-  at_bare context b k is e = row_given context b (row b k nothing nothing nothing) (numbers 0 0 0) bs p rest is (one-small (row b k nothing nothing nothing) 0 (lit< tt) refl refl refl) e
+  at_bare context b k is e = row_given context b (row b k nothing nothing nothing) (numbers 0 0 0) bs p rest is (one_small (row b k nothing nothing nothing) 0 (lit< tt) refl refl refl) e
 
-  at-work : (n : ℕ) → n ≤ 1000000 → drop p bs ≡ 0x21 ∷ write 4 n rest → Given Body bs p (command.Work n) rest
+  at_work : (n : ℕ) → n ≤ 1000000 → drop p bs ≡ 0x21 ∷ write 4 n rest → Given Body bs p (command.Work n) rest
   unfolding numbers row_in
-  at-work n h e = row_given Body 0x21 (row 0x21 kind.Work ticks nothing nothing) (numbers n 0 0) bs p rest refl (one-small (row 0x21 kind.Work ticks nothing nothing) n (omega arith) refl refl (within_range 0 n 1000000 (omega arith) h)) e
+  at_work n h e = row_given Body 0x21 (row 0x21 kind.Work ticks nothing nothing) (numbers n 0 0) bs p rest refl (one_small (row 0x21 kind.Work ticks nothing nothing) n (omega arith) refl refl (within_range 0 n 1000000 (omega arith) h)) e
 
-  at-repeat : (n : ℕ) → n ≤ 1000 → drop p bs ≡ 0x26 ∷ write 2 n rest → Given Body bs p (command.Repeat n) rest
+  at_repeat : (n : ℕ) → n ≤ 1000 → drop p bs ≡ 0x26 ∷ write 2 n rest → Given Body bs p (command.Repeat n) rest
   unfolding numbers row_in
-  at-repeat n h e = row_given Body 0x26 (row 0x26 kind.Repeat turns nothing nothing) (numbers n 0 0) bs p rest refl (one-small (row 0x26 kind.Repeat turns nothing nothing) n (omega arith) refl refl (within_range 0 n 1000 (omega arith) h)) e
+  at_repeat n h e = row_given Body 0x26 (row 0x26 kind.Repeat turns nothing nothing) (numbers n 0 0) bs p rest refl (one_small (row 0x26 kind.Repeat turns nothing nothing) n (omega arith) refl refl (within_range 0 n 1000 (omega arith) h)) e
 
   at_task : (context : Context) → row_in context 0x30 ≡ Some (row 0x30 kind.Task code period deadline) → (c t d : ℕ) → c ≤ 255 → 10 ≤ t → t ≤ 1000000 → 1 ≤ d → d ≤ t → drop p bs ≡ 0x30 ∷ write 1 c (write 4 t (write 4 d rest)) → Given context bs p (command.Task c t d) rest
   unfolding numbers
@@ -141,9 +141,9 @@ module _ (bs : List ℕ) (p : ℕ) (rest : List ℕ) where
       })
       e
 
-  at-point : (t q : ℕ) → t ≤ 1000000 → q ≤ 65535 → drop p bs ≡ 0x32 ∷ write 4 t (write 2 q rest) → Given AfterBlock bs p (command.Point t q) rest
+  at_point : (t q : ℕ) → t ≤ 1000000 → q ≤ 65535 → drop p bs ≡ 0x32 ∷ write 4 t (write 2 q rest) → Given AfterBlock bs p (command.Point t q) rest
   unfolding numbers row_in
-  at-point t q a b e =
+  at_point t q a b e =
       row_given AfterBlock 0x32 (row 0x32 kind.Point ticks word nothing) (numbers t q 0) bs p rest refl
       (record {
         first = omega arith;
@@ -165,9 +165,9 @@ module _ (bs : List ℕ) (p : ℕ) (rest : List ℕ) where
   unfolding numbers row_in
   at_block n h e = at_code BlockDue 0x31 kind.Block refl n h e
 
-  at-either : drop p bs ≡ 0x23 ∷ rest → Given Body bs p command.Either rest
+  at_either : drop p bs ≡ 0x23 ∷ rest → Given Body bs p command.Either rest
   unfolding numbers row_in
-  at-either e = at_bare Body 0x23 kind.Either refl e
+  at_either e = at_bare Body 0x23 kind.Either refl e
 
   at_or : drop p bs ≡ 0x24 ∷ rest → Given Body bs p command.Or rest
   unfolding numbers row_in
@@ -203,7 +203,7 @@ record Took (bs : List ℕ) (d p : ℕ) (rest : List ℕ) : Type 0 where
 record RanOn (bs : List ℕ) (s : Result Ended ReadFault) (p : ℕ) (c : Command) (rest : List ℕ) : Type 0 where
   ended : Ended
   is : s ≡ Ok ended
-  last-is : ended.last ≡ c
+  last_is : ended.last ≡ c
   leaves : drop ended.place bs ≡ rest
   on : p < ended.place
   inside : p < length bs
@@ -225,7 +225,7 @@ module _ (bs : List ℕ) where
       record {
         ended = record { run = done; last = c; at = p; place = after Body bs p };
         is = ap (turn (item_of (run_at d bs) bs) (run_with (item_of (run_at d bs) bs) bs n) bs (after Body bs p)) g.reads ∙ cond-true _ _ _ end;
-        last-is = refl;
+        last_is = refl;
         leaves = g.leaves;
         on = g.on;
         inside = g.inside;
@@ -245,7 +245,7 @@ module _ (bs : List ℕ) where
             ∙ ap (then (λ (x : Parsed). then (more_items x.item) (run_with (item_of (run_at d bs) bs) bs n x.end))) t.item
             ∙ ap (λ k. then (more_items t.parsed.item) (run_with (item_of (run_at d bs) bs) bs k t.parsed.end)) (sym some)
             ∙ ap (then (more_items t.parsed.item)) m.is;
-        last-is = m.last-is;
+        last_is = m.last_is;
         leaves = m.leaves;
         on = omega (arith, m.on, t.on);
         inside = t.inside;
@@ -260,21 +260,21 @@ module _ (bs : List ℕ) where
 
     item_took : (i : Item) (d p : ℕ) (rest : List ℕ) → FitsItem i → nest_item i ≤ d → drop p bs ≡ enc_item i rest → Took bs d p rest
     item_took (work t) d p rest f h e =
-        let g = at-work bs p rest t f e in
+        let g = at_work bs p rest t f e in
         record { command_is = command.Work t; parsed = record { item = work t; end = after Body bs p }; reads = g.reads; goes_on = refl; item = refl; leaves = g.leaves; on = g.on; inside = g.inside }
     item_took (call at c) d p rest f h e =
         let g = at_call bs p rest c f e in
         record { command_is = command.Call c; parsed = record { item = call p c; end = after Body bs p }; reads = g.reads; goes_on = refl; item = refl; leaves = g.leaves; on = g.on; inside = g.inside }
     item_took (either b) d p rest f h e =
-        let g = at-either bs p (enc_arms b rest) e in
+        let g = at_either bs p (enc_arms b rest) e in
         let m = arms_took b d (length bs) p (after Body bs p) rest f h g.leaves (omega arith) in
         let q : Armed = m.armed in
         record { command_is = command.Either; parsed = record { item = either q.arms; end = q.end }; reads = g.reads; goes_on = refl; item = ap (then an_either) m.is; leaves = m.leaves; on = omega (arith, m.on, g.on); inside = g.inside }
     item_took (repeat k b) d p rest f h e =
-        let g = at-repeat bs p (enc_run b (0x27 ∷ rest)) k f.0 e in
+        let g = at_repeat bs p (enc_run b (0x27 ∷ rest)) k f.0 e in
         let m = opened d p (after Body bs p) command.EndRepeat rest (omega arith) (run_took b (d - 1) (length bs) (after Body bs p) command.EndRepeat (0x27 ∷ rest) rest (λ q. at_end_repeat bs q rest) refl f.1 (omega arith) g.leaves (omega arith)) in
         let x : Ended = m.ended in
-        record { command_is = command.Repeat k; parsed = record { item = repeat k x.run; end = x.place }; reads = g.reads; goes_on = refl; item = ap (then (a_repeat k)) m.is ∙ ap (by_last _ _ _ _ _) m.last-is; leaves = m.leaves; on = omega (arith, m.on, g.on); inside = g.inside }
+        record { command_is = command.Repeat k; parsed = record { item = repeat k x.run; end = x.place }; reads = g.reads; goes_on = refl; item = ap (then (a_repeat k)) m.is ∙ ap (by_last _ _ _ _ _) m.last_is; leaves = m.leaves; on = omega (arith, m.on, g.on); inside = g.inside }
 
     run_took : (b : Run) (d n p : ℕ) (c : Command) (tail rest : List ℕ) → ((q : ℕ) → drop q bs ≡ tail → Given Body bs q c rest) → ends c ≡ true → FitsRun b → nest_run b ≤ d → drop p bs ≡ enc_run b tail → length bs ≤ p + n → RanOn bs (run_with (item_of (run_at d bs) bs) bs (suc n) p) p c rest
     run_took done d n p c tail rest close end f h e long = done_took d n p c tail rest close end e
@@ -286,14 +286,14 @@ module _ (bs : List ℕ) where
     arms_took (one b) d n at p rest f h e long =
         let m = opened d at p command.EndEither rest (omega arith) (run_took b (d - 1) (length bs) p command.EndEither (0x25 ∷ rest) rest (λ q. at_end_either bs q rest) refl f (omega arith) e (omega arith)) in
         let x : Ended = m.ended in
-        record { armed = record { arms = one x.run; end = x.place }; is = ap (then _) m.is ∙ ap (by_last _ _ _ _ _) m.last-is; leaves = m.leaves; on = m.on }
+        record { armed = record { arms = one x.run; end = x.place }; is = ap (then _) m.is ∙ ap (by_last _ _ _ _ _) m.last_is; leaves = m.leaves; on = m.on }
     arms_took (more b c) d n at p rest f h e long =
         let m = opened d at p command.Or (enc_arms c rest) (omega arith) (run_took b (d - 1) (length bs) p command.Or (0x24 ∷ enc_arms c rest) (enc_arms c rest) (λ q. at_or bs q (enc_arms c rest)) refl f.0 (omega arith) e (omega arith)) in
         let x : Ended = m.ended in
         let some : suc (n - 1) ≡ n = omega (arith, m.inside) in
         let r = arms_took c d (n - 1) at x.place rest f.1 (omega arith) m.leaves (omega (arith, m.on)) in
         let q : Armed = r.armed in
-        record { armed = record { arms = more x.run q.arms; end = q.end }; is = ap (then _) m.is ∙ ap (by_last _ _ _ _ _) m.last-is ∙ ap (λ k. then (more-arms x.run) (arms_by (run_at d bs at) bs k x.place)) (sym some) ∙ ap (then (more-arms x.run)) r.is; leaves = r.leaves; on = omega (arith, m.on, r.on) }
+        record { armed = record { arms = more x.run q.arms; end = q.end }; is = ap (then _) m.is ∙ ap (by_last _ _ _ _ _) m.last_is ∙ ap (λ k. then (more_arms x.run) (arms_by (run_at d bs at) bs k x.place)) (sym some) ∙ ap (then (more_arms x.run)) r.is; leaves = r.leaves; on = omega (arith, m.on, r.on) }
 
   -- the blocks of a task
   blocks_took : (b : Blocks) (n count p : ℕ) (rest : List ℕ) → FitsBlocks count b → drop p bs ≡ enc_blocks b rest → length bs ≤ p + n → (x : Blocks × ℕ) × (blocks_from bs (suc n) count p ≡ Ok x) × (drop x.1 bs ≡ rest) × (p < x.1)
@@ -308,19 +308,19 @@ module _ (bs : List ℕ) where
       )
   blocks_took (block at c t q b) n count p rest f e long =
       let g = at_block bs p (0x32 ∷ write 4 t (write 2 q (enc_blocks b rest))) c f.0 e in
-      let h = at-point bs (after BlockDue bs p) (enc_blocks b rest) t q f.2 f.3 g.leaves in
+      let h = at_point bs (after BlockDue bs p) (enc_blocks b rest) t q f.2 f.3 g.leaves in
       let end = after AfterBlock bs (after BlockDue bs p) in
       let some : suc (n - 1) ≡ n = omega (arith, g.inside) in
       let r = blocks_took b (n - 1) (count + 1) end rest f.4 h.leaves (omega (arith, g.on, h.on, g.inside)) in (
         (block p c t q r.0.0, r.0.1),
         ap (onward bs (a_block bs count (blocks_from bs n (count + 1)) (after BlockDue bs p))) g.reads ∙ cond-false _ _ _ (lt-leb _ _ f.1) ∙ ap (onward bs (after_block p c (blocks_from bs n (count + 1)) end)) h.reads
-            ∙ ap (λ k. then (more-blocks p c t q) (blocks_from bs k (count + 1) end)) (sym some) ∙ ap (then (more-blocks p c t q)) r.1,
+            ∙ ap (λ k. then (more_blocks p c t q) (blocks_from bs k (count + 1) end)) (sym some) ∙ ap (then (more_blocks p c t q)) r.1,
         r.2,
         omega (arith, g.on, h.on, r.3),
       )
 
   let_in : {X : Type 0} (c at : ℕ) (hs : List Head) (r : Result X ReadFault) → member c (codes hs) ≡ false → length (codes hs) < 32 → admit c at hs r ≡ r
-  let_in c at hs r new few = cond-false _ _ _ (used-is c hs ∙ new) ∙ cond-false _ _ _ (lt-leb _ _ (subst (λ n. n < 32) (length-map hs (λ (x : Head). x.code)) few))
+  let_in c at hs r new few = cond-false _ _ _ (used_is c hs ∙ new) ∙ cond-false _ _ _ (lt-leb _ _ (subst (λ n. n < 32) (length-map hs (λ (x : Head). x.code)) few))
 
   nothing_left : (context : Context) (p : ℕ) → drop p bs ≡ [] → answer context bs p ≡ Ok None
   unfolding answer
@@ -340,7 +340,7 @@ module _ (bs : List ℕ) where
       let r = tasks_took ts (n - 1) (hs ++ head t.code p ∷ []) b.0.1 (subst (λ l. FitsTasks l ts) (sym (codes_push hs (head t.code p))) f.8) b.2 (omega (arith, g.on, b.3, g.inside)) in (
         (record { code = t.code; at = p; period = t.period; deadline = t.deadline; blocks = b.0.0 } ∷ r.0.0, r.0.1),
         ap (task_turn bs hs (tasks_from bs n) p (after Tasks bs p)) g.reads ∙ let_in t.code p hs _ f.5 f.6 ∙ ap (then _) b.1
-            ∙ ap (λ k. then (more-tasks t.code p t.period t.deadline b.0.0) (tasks_from bs k (hs ++ head t.code p ∷ []) b.0.1)) (sym some) ∙ ap (then (more-tasks t.code p t.period t.deadline b.0.0)) r.1,
+            ∙ ap (λ k. then (more_tasks t.code p t.period t.deadline b.0.0) (tasks_from bs k (hs ++ head t.code p ∷ []) b.0.1)) (sym some) ∙ ap (then (more_tasks t.code p t.period t.deadline b.0.0)) r.1,
       )
 
   -- where the routines end
@@ -362,8 +362,8 @@ module _ (bs : List ℕ) where
       let some : suc (n - 1) ≡ n = omega (arith, g.inside) in
       let v = routines_took rs ts (n - 1) (hs ++ head r.code p ∷ []) x.place k (subst (λ l. FitsRoutines l rs) (sym (codes_push hs (head r.code p))) f.5) m.leaves (omega (arith, g.on, m.on, g.inside)) in (
         (record { code = r.code; at = p; body = x.run } ∷ v.0.0, v.0.1),
-        ap (routine_turn bs hs (routines_from bs n) p (after Top bs p)) g.reads ∙ let_in r.code p hs _ f.1 f.2 ∙ ap (then _) m.is ∙ ap (by_last _ _ _ _ _) m.last-is
-            ∙ ap (λ j. then (more-routines r.code p x.run) (routines_from bs j (hs ++ head r.code p ∷ []) x.place)) (sym some) ∙ ap (then (more-routines r.code p x.run)) v.1,
+        ap (routine_turn bs hs (routines_from bs n) p (after Top bs p)) g.reads ∙ let_in r.code p hs _ f.1 f.2 ∙ ap (then _) m.is ∙ ap (by_last _ _ _ _ _) m.last_is
+            ∙ ap (λ j. then (more_routines r.code p x.run) (routines_from bs j (hs ++ head r.code p ∷ []) x.place)) (sym some) ∙ ap (then (more_routines r.code p x.run)) v.1,
         v.2,
       )
 
@@ -375,5 +375,5 @@ accepts l f =
     let r = routines_took bs l.routines l.tasks (length bs) [] 0 f.1 f.0 refl (omega arith) in
     let t = tasks_took bs l.tasks (length bs) [] r.0.1 f.1 r.2 (omega arith) in (
       record { routines = r.0.0; tasks = t.0.0 },
-      cond-false _ _ _ (le-ltb _ _ f.2) ∙ ap (then (tasks-then bs)) r.1 ∙ ap (then (λ (ts : List Task × ℕ). Ok (record { routines = r.0.0; tasks = ts.0 }))) t.1,
+      cond-false _ _ _ (le-ltb _ _ f.2) ∙ ap (then (tasks_then bs)) r.1 ∙ ap (then (λ (ts : List Task × ℕ). Ok (record { routines = r.0.0; tasks = ts.0 }))) t.1,
     )

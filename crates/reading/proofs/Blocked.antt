@@ -10,7 +10,7 @@ use Rattle.commands.specs.declared.table.Context.TheVariants.{BlockDue, AfterBlo
 use Rattle.commands.specs.Commands.{answer, after}
 use Rattle.reading.specs.Trees.{Blocks}
 use Rattle.reading.specs.Runs.{then}
-use Rattle.reading.specs.Listings.{by_command, onward, more-blocks, after_block, a_block, blocks_from, blocks_end}
+use Rattle.reading.specs.Listings.{by_command, onward, more_blocks, after_block, a_block, blocks_from, blocks_end}
 
 -- a command that is no block, and one that is neither a point nor the end of a task
 no_block : {X : Type 0} (c : Command) (b : ℕ → X) (x : X) → ((n : ℕ) → c ≡ command.Block n → ⊥) → by_command (λ _. x) (λ _ _ _. x) b (λ _ _. x) x x c ≡ x
@@ -45,7 +45,7 @@ no_follower (command.Point n m) p e x h i = absurd (h n m refl)
 no_follower command.EndTask p e x h i = absurd (i refl)
 no_follower command.Sheet p e x h i = refl
 
-end_more : (at c t q : ℕ) (s : Result (Blocks × ℕ) ReadFault) → blocks_end (then (more-blocks at c t q) s) ≡ blocks_end s
+end_more : (at c t q : ℕ) (s : Result (Blocks × ℕ) ReadFault) → blocks_end (then (more_blocks at c t q) s) ≡ blocks_end s
 end_more at c t q (Ok b) = refl
 end_more at c t q (Err f) = refl
 
@@ -73,8 +73,8 @@ module _ (bs : List ℕ) (count place : ℕ) (whole : Result ℕ ReadFault) (g :
   not_a_block at c e h = block_now e ∙ ap blocks_end (no_block c _ _ h)
 
   module _ (at n : ℕ) (e : answer BlockDue bs place ≡ Ok (Some (at, command.Block n))) where
-    pub block-many : 64 ≤ count → whole ≡ Err (TooMany at)
-    block-many h = block_now e ∙ ap blocks_end (cond-true _ _ _ (le-leb _ _ h))
+    pub block_many : 64 ≤ count → whole ≡ Err (TooMany at)
+    block_many h = block_now e ∙ ap blocks_end (cond-true _ _ _ (le-leb _ _ h))
 
     module _ (h : count < 64) (next : ℕ) (is : next ≡ after BlockDue bs place) where
       follower : {r : _} → answer AfterBlock bs next ≡ r → whole ≡ blocks_end (onward bs (after_block at n (blocks_from bs g.left (count + 1)) (after AfterBlock bs next)) r)
@@ -96,8 +96,8 @@ module _ (bs : List ℕ) (count place : ℕ) (whole : Result ℕ ReadFault) (g :
         pub task_end : c ≡ command.EndTask → whole ≡ Ok (after AfterBlock bs next)
         task_end k = follower i ∙ ap (λ x. blocks_end (after_block at n (blocks_from bs g.left (count + 1)) (after AfterBlock bs next) p x)) k
 
-        pub point-then : (t m : ℕ) → c ≡ command.Point t m → (q : ℕ) → q ≡ after AfterBlock bs next → place < q → place < length bs → Blocking bs (count + 1) q whole
-        point-then t m k q on forth inside =
+        pub point_then : (t m : ℕ) → c ≡ command.Point t m → (q : ℕ) → q ≡ after AfterBlock bs next → place < q → place < length bs → Blocking bs (count + 1) q whole
+        point_then t m k q on forth inside =
             let some : g.left ≡ suc (g.left - 1) = omega (arith, g.enough) in
             record {
               left = g.left - 1;

@@ -12,7 +12,7 @@ use Rattle.commands.specs.Commands.{answer, after}
 use Rattle.reading.specs.Heads.{used}
 use Rattle.reading.specs.Trees.{Routine, Blocks, Task}
 use Rattle.reading.specs.Runs.{Ended, by_last, run_at}
-use Rattle.reading.specs.Listings.{by_command, admit, more-routines, routine_turn, routines_from, more-tasks, task_turn, tasks_from, blocks_from}
+use Rattle.reading.specs.Listings.{by_command, admit, more_routines, routine_turn, routines_from, more_tasks, task_turn, tasks_from, blocks_from}
 use Rattle.reading.specs.Bodies.{BodyRead, TaskRead}
 use Rattle.commands.proofs.Decoded.{here}
 use Rattle.reading.proofs.Spelled.{went}
@@ -92,7 +92,7 @@ module _ (bs : List ℕ) where
       let w = went _ (run_at 9 bs c.0 (after Top bs p)) rs (admitted x.0 c.0 seen _ rs x.2).2 in
       let e : Ended = w.0 in
       let k = closed_cmd e.last _ _ rs w.2 in
-      let v = went (more-routines x.0 c.0 e.run) _ rs k.1 in
+      let v = went (more_routines x.0 c.0 e.run) _ rs k.1 in
       let rest = more _ _ v.0 v.1 in
       let one : BodyRead bs (record { code = x.0; at = c.0; body = e.run }) =
       record {
@@ -100,7 +100,7 @@ module _ (bs : List ℕ) where
         command_is = ap (λ q. answer Top bs q) at_p ∙ a ∙ ap (λ y. Ok (Some (c.0, y))) x.1;
         run_is = ap (λ q. run_at 9 bs c.0 (after Top bs q)) at_p ∙ w.1;
         body_is = refl;
-        last-is = k.0;
+        last_is = k.0;
       }
       in
       subst (λ (y : List Routine × ℕ). AllByRecursion (BodyRead bs) y.0) (inside v.2) (one, rest))
@@ -119,7 +119,7 @@ module _ (bs : List ℕ) where
       let at_p : c.0 ≡ p = here Tasks bs p c.0 c.1 a in
       let w = went _ (blocks_from bs (suc (length bs)) 0 (after Tasks bs p)) ts (admitted x.0 c.0 seen _ ts x.4).2 in
       let b : Blocks × ℕ = w.0 in
-      let v = went (more-tasks x.0 c.0 x.1 x.2 b.0) _ ts w.2 in
+      let v = went (more_tasks x.0 c.0 x.1 x.2 b.0) _ ts w.2 in
       let rest = more _ _ v.0 v.1 in
       let one : TaskRead bs (record { code = x.0; at = c.0; period = x.1; deadline = x.2; blocks = b.0 }) =
       record {
@@ -130,7 +130,7 @@ module _ (bs : List ℕ) where
       in
       subst (λ (y : List Task × ℕ). AllByRecursion (TaskRead bs) y.0) (inside v.2) (one, rest)
 
-  pub all-tasks : (n : ℕ) (seen : List Head) (p : ℕ) (ts : List Task × ℕ) → tasks_from bs n seen p ≡ Ok ts → AllByRecursion (TaskRead bs) ts.0
+  pub all_tasks : (n : ℕ) (seen : List Head) (p : ℕ) (ts : List Task × ℕ) → tasks_from bs n seen p ≡ Ok ts → AllByRecursion (TaskRead bs) ts.0
   unfolding tasks_from
-  all-tasks zero seen p ts e = refused e
-  all-tasks (suc n) seen p ts e = task_read n (all-tasks n) seen p ts (answer Tasks bs p) refl e
+  all_tasks zero seen p ts e = refused e
+  all_tasks (suc n) seen p ts e = task_read n (all_tasks n) seen p ts (answer Tasks bs p) refl e

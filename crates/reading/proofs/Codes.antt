@@ -8,9 +8,9 @@ use Rattle.reading.specs.Fitting.{member}
 abbrev pub codes : List Head → List ℕ
 codes = map (λ (h : Head). h.code)
 
-pub used-is : (c : ℕ) (hs : List Head) → used c hs ≡ member c (codes hs)
-used-is c [] = refl
-used-is c (h ∷ hs) = ap (cond (eqb h.code c) true) (used-is c hs)
+pub used_is : (c : ℕ) (hs : List Head) → used c hs ≡ member c (codes hs)
+used_is c [] = refl
+used_is c (h ∷ hs) = ap (cond (eqb h.code c) true) (used_is c hs)
 
 pub codes_push : (hs : List Head) (h : Head) → codes (hs ++ h ∷ []) ≡ codes hs ++ h.code ∷ []
 codes_push hs h = map-append (λ (x : Head). x.code) hs (h ∷ [])

@@ -16,18 +16,18 @@ use Rattle.reading.specs.declared.heads.Head.{Head}
 use Rattle.commands.specs.Commands.{numbers_of, command_of, answer, after}
 use Rattle.reading.specs.Heads.{head}
 use Rattle.reading.specs.Trees.{Item, work, call, either, repeat, Run, done, next, Arms, one, more, Routine, Blocks, Task, Listing}
-use Rattle.reading.specs.Runs.{Ended, Parsed, Armed, ends, more-arms, arms_by, an_either, a_repeat, item_of, more_items, turn, run_with, run_at}
-use Rattle.reading.specs.Listings.{more-routines, routine_turn, routines_from, more-tasks, task_turn, tasks_from, blocks_from, tasks-then, listing, told, outline_of}
+use Rattle.reading.specs.Runs.{Ended, Parsed, Armed, ends, more_arms, arms_by, an_either, a_repeat, item_of, more_items, turn, run_with, run_at}
+use Rattle.reading.specs.Listings.{more_routines, routine_turn, routines_from, more_tasks, task_turn, tasks_from, blocks_from, tasks_then, listing, told, outline_of}
 use Rattle.reading.specs.Encoding.{encode}
 use Rattle.reading.specs.Fitting.{FitsItem, FitsRun, FitsArms, nest_item, nest_run, nest_arms, FitsRoutines, FitsBlocks, FitsTasks, Fits, Accepted}
 use Rattle.reading.specs.declared.outline.Outline.{Outline}
 use Rattle.reading.proofs.Accepts.{accepts}
 use Rattle.reading.proofs.Encoded.{accepted}
 use Rattle.commands.proofs.Rows.{Ranged, ranged}
-use Rattle.commands.proofs.Inverted.{Written, read-written, small_routine, small-block, task_ranges}
-use Rattle.reading.proofs.Spelled.{ReadsItem, ReadsRun, ReadsArms, Reads, run-reads, went, arm_by, repeat-by}
+use Rattle.commands.proofs.Inverted.{Written, read_written, small_routine, small_block, task_ranges}
+use Rattle.reading.proofs.Spelled.{ReadsItem, ReadsRun, ReadsArms, Reads, run_reads, went, arm_by, repeat_by}
 use Rattle.reading.proofs.Stepped.{refused, FirstBlock, first_block}
-use Rattle.reading.proofs.Codes.{codes, used-is, codes_push}
+use Rattle.reading.proofs.Codes.{codes, used_is, codes_push}
 use Rattle.reading.proofs.Bodies.{admitted, inside, routine_cmd, task_cmd, closed_cmd}
 
 work_kind : (k : Kind) (n : Numbers) (t : ℕ) → command_of k n ≡ command.Work t → Ranged k n → t ≤ 1000000
@@ -112,25 +112,25 @@ task_code kind.Sheet n c p d e r = let z : ◌≡◌ {A = ℕ} 0 1 = cc in absur
 
 ranges : (context : Context) (bs : List ℕ) (p at : ℕ) (c : Command) → answer context bs p ≡ Ok (Some (at, c)) → (k : Kind) × (n : Numbers) × (command_of k n ≡ c) × Ranged k n
 ranges context bs p at c e =
-    let w = read-written context bs p at c e in
+    let w = read_written context bs p at c e in
     let x : Written context (drop p bs) c w.0 = w.1 in
     (x.row.kind, numbers_of x.row x.rest, x.command_is, ranged context x.byte x.row x.row_is (numbers_of x.row x.rest) x.fits)
 
 module _ (bs : List ℕ) where
   mutual
-    item-fits : (i : Item) (p q : ℕ) → ReadsItem bs p i q → FitsItem i
-    item-fits (work t) p q r = let x = ranges Body bs p p (command.Work t) r.0 in work_kind x.0 x.1 t x.2 x.3
-    item-fits (call at c) p q r = let x = ranges Body bs p p (command.Call c) r.1.0 in call_kind x.0 x.1 c x.2 x.3
-    item-fits (either b) p q r = arms-fit b r.0 q r.2
-    item-fits (repeat k b) p q r = let x = ranges Body bs p p (command.Repeat k) r.2.0 in (repeat_kind x.0 x.1 k x.2 x.3, run_fits b r.0 r.1 r.3)
+    item_fits : (i : Item) (p q : ℕ) → ReadsItem bs p i q → FitsItem i
+    item_fits (work t) p q r = let x = ranges Body bs p p (command.Work t) r.0 in work_kind x.0 x.1 t x.2 x.3
+    item_fits (call at c) p q r = let x = ranges Body bs p p (command.Call c) r.1.0 in call_kind x.0 x.1 c x.2 x.3
+    item_fits (either b) p q r = arms_fit b r.0 q r.2
+    item_fits (repeat k b) p q r = let x = ranges Body bs p p (command.Repeat k) r.2.0 in (repeat_kind x.0 x.1 k x.2 x.3, run_fits b r.0 r.1 r.3)
 
     run_fits : (b : Run) (p q : ℕ) → ReadsRun bs p b q → FitsRun b
     run_fits done p q r = tt
-    run_fits (next i b) p q r = (item-fits i p r.0 r.1, run_fits b r.0 q r.2)
+    run_fits (next i b) p q r = (item_fits i p r.0 r.1, run_fits b r.0 q r.2)
 
-    arms-fit : (b : Arms) (p q : ℕ) → ReadsArms bs p b q → FitsArms b
-    arms-fit (one b) p q r = run_fits b p r.0 r.1
-    arms-fit (more b c) p q r = (run_fits b p r.0 r.2, arms-fit c r.1 q r.4)
+    arms_fit : (b : Arms) (p q : ℕ) → ReadsArms bs p b q → FitsArms b
+    arms_fit (one b) p q r = run_fits b p r.0 r.1
+    arms_fit (more b c) p q r = (run_fits b p r.0 r.2, arms_fit c r.1 q r.4)
 
 -- eithers and repeats are nested no deeper than is allowed
 module _ (bs : List ℕ) (d : ℕ) (inner : (opener p : ℕ) (e : Ended) → run_at d bs opener p ≡ Ok e → nest_run e.run < d) where
@@ -143,7 +143,7 @@ module _ (bs : List ℕ) (d : ℕ) (inner : (opener p : ℕ) (e : Ended) → run
       let low = inner at p x w.1 in
       ⊎_elim
       (λ y.
-      let v = went (more-arms x.run) (arms_by (run_at d bs at) bs n x.place) q y.1 in
+      let v = went (more_arms x.run) (arms_by (run_at d bs at) bs n x.place) q y.1 in
       let rest = arms_nest n at x.place v.0 v.1 in
       subst (λ (z : Armed). nest_arms z.arms < d) (inside v.2) (omega arith))
       (λ y. subst (λ (z : Armed). nest_arms z.arms < d) (inside y.1) low)
@@ -161,7 +161,7 @@ module _ (bs : List ℕ) (d : ℕ) (inner : (opener p : ℕ) (e : Ended) → run
   item_nests at (command.Repeat t) m i e =
       let w = went (a_repeat t) (run_at d bs at m) i e in
       let x : Ended = w.0 in
-      let b = repeat-by x.last _ _ i w.2 in
+      let b = repeat_by x.last _ _ i w.2 in
       subst (λ (y : Parsed). nest_item y.item ≤ d) (inside b.1) (inner at m x w.1)
   item_nests at command.EndRepeat m i e = refused e
   item_nests at command.EndRoutine m i e = refused e
@@ -197,19 +197,19 @@ run_nests zero bs opener p e h = refused h
 run_nests (suc d) bs opener p e h = let x = with_nests bs d (run_nests d bs) (suc (length bs)) p e h in omega arith
 
 module _ (bs : List ℕ) where
-  blocks-fit : (n count p : ℕ) (b : Blocks × ℕ) → blocks_from bs n count p ≡ Ok b → FitsBlocks count b.0
+  blocks_fit : (n count p : ℕ) (b : Blocks × ℕ) → blocks_from bs n count p ≡ Ok b → FitsBlocks count b.0
   unfolding blocks_from
-  blocks-fit zero count p b e = refused e
-  blocks-fit (suc n) count p b e =
+  blocks_fit zero count p b e = refused e
+  blocks_fit (suc n) count p b e =
       let f : FirstBlock bs n count p b = first_block bs n count p b e in
-      let small = small-block BlockDue bs p f.at f.code f.command_is in
+      let small = small_block BlockDue bs p f.at f.code f.command_is in
       let c-fits : f.code ≤ 255 = omega arith in
       ⊎_elim
       (λ x. subst (FitsBlocks count) (sym x.1) (c-fits, f.few))
       (λ x.
       let y = ranges AfterBlock bs (after BlockDue bs p) x.6 (command.Point x.0 x.1) x.7 in
       let z = point_kind y.0 y.1 x.0 x.1 y.2 y.3 in
-      subst (FitsBlocks count) (sym x.5) (c-fits, f.few, z.0, z.1, blocks-fit n (count + 1) _ (x.2, b.1) x.4))
+      subst (FitsBlocks count) (sym x.5) (c-fits, f.few, z.0, z.1, blocks_fit n (count + 1) _ (x.2, b.1) x.4))
       f.follows
 
   routine_fits : (n : ℕ) → ((seen : List Head) (p : ℕ) (rs : List Routine × ℕ) → routines_from bs n seen p ≡ Ok rs → FitsRoutines (codes seen) rs.0) → (seen : List Head) (p : ℕ) (rs : List Routine × ℕ) (r : Result (Option (ℕ × Command)) ReadFault) → answer Top bs p ≡ r → routine_turn bs seen (routines_from bs n) p (after Top bs p) r ≡ Ok rs → FitsRoutines (codes seen) rs.0
@@ -223,21 +223,21 @@ module _ (bs : List ℕ) where
       let w = went _ (run_at 9 bs c.0 (after Top bs p)) rs k.2 in
       let e : Ended = w.0 in
       let j = closed_cmd e.last _ _ rs w.2 in
-      let v = went (more-routines x.0 c.0 e.run) _ rs j.1 in
+      let v = went (more_routines x.0 c.0 e.run) _ rs j.1 in
       let small = small_routine Top bs p c.0 x.0 (q ∙ ap (λ y. Ok (Some (c.0, y))) x.1) in
       let low : x.0 ≤ 255 = omega arith in
-      let r : Reads bs (after Top bs p) e = run-reads 9 bs c.0 (after Top bs p) e w.1 in
+      let r : Reads bs (after Top bs p) e = run_reads 9 bs c.0 (after Top bs p) e w.1 in
       let deep = run_nests 9 bs c.0 (after Top bs p) e w.1 in
       let shallow : nest_run e.run ≤ 8 = omega arith in
       let few : length (codes seen) < 32 = subst (λ m. m < 32) (sym (length-map seen (λ (z : Head). z.code))) k.1 in
       let rest = subst (λ l. FitsRoutines l v.0.0) (codes_push seen (head x.0 c.0)) (ih _ _ v.0 v.1) in
-      subst (λ (y : List Routine × ℕ). FitsRoutines (codes seen) y.0) (inside v.2) (low, sym (used-is x.0 seen) ∙ k.0, few, run_fits bs e.run _ r.0 r.1, shallow, rest))
+      subst (λ (y : List Routine × ℕ). FitsRoutines (codes seen) y.0) (inside v.2) (low, sym (used_is x.0 seen) ∙ k.0, few, run_fits bs e.run _ r.0 r.1, shallow, rest))
       (routine_cmd c.1 _ _ rs h)
 
-  routines-fit : (n : ℕ) (seen : List Head) (p : ℕ) (rs : List Routine × ℕ) → routines_from bs n seen p ≡ Ok rs → FitsRoutines (codes seen) rs.0
+  routines_fit : (n : ℕ) (seen : List Head) (p : ℕ) (rs : List Routine × ℕ) → routines_from bs n seen p ≡ Ok rs → FitsRoutines (codes seen) rs.0
   unfolding routines_from
-  routines-fit zero seen p rs e = refused e
-  routines-fit (suc n) seen p rs e = routine_fits n (routines-fit n) seen p rs (answer Top bs p) refl e
+  routines_fit zero seen p rs e = refused e
+  routines_fit (suc n) seen p rs e = routine_fits n (routines_fit n) seen p rs (answer Top bs p) refl e
 
   task_fits : (n : ℕ) → ((seen : List Head) (p : ℕ) (ts : List Task × ℕ) → tasks_from bs n seen p ≡ Ok ts → FitsTasks (codes seen) ts.0) → (seen : List Head) (p : ℕ) (ts : List Task × ℕ) (r : Result (Option (ℕ × Command)) ReadFault) → answer Tasks bs p ≡ r → task_turn bs seen (tasks_from bs n) p (after Tasks bs p) r ≡ Ok ts → FitsTasks (codes seen) ts.0
   task_fits n ih seen p ts (Ok None) q h = subst (λ (x : List Task × ℕ). FitsTasks (codes seen) x.0) (inside h) tt
@@ -247,19 +247,19 @@ module _ (bs : List ℕ) where
       let k = admitted x.0 c.0 seen _ ts x.4 in
       let w = went _ (blocks_from bs (suc (length bs)) 0 (after Tasks bs p)) ts k.2 in
       let b : Blocks × ℕ = w.0 in
-      let v = went (more-tasks x.0 c.0 x.1 x.2 b.0) _ ts w.2 in
+      let v = went (more_tasks x.0 c.0 x.1 x.2 b.0) _ ts w.2 in
       let here = q ∙ ap (λ y. Ok (Some (c.0, y))) x.3 in
       let y = ranges Tasks bs p c.0 (command.Task x.0 x.1 x.2) here in
       let low = task_code y.0 y.1 x.0 x.1 x.2 y.2 y.3 in
       let z = task_ranges Tasks bs p c.0 x.0 x.1 x.2 here in
       let few : length (codes seen) < 32 = subst (λ m. m < 32) (sym (length-map seen (λ (g : Head). g.code))) k.1 in
       let rest = subst (λ l. FitsTasks l v.0.0) (codes_push seen (head x.0 c.0)) (ih _ _ v.0 v.1) in
-      subst (λ (g : List Task × ℕ). FitsTasks (codes seen) g.0) (inside v.2) (low, z.0, z.1, z.2, z.3, sym (used-is x.0 seen) ∙ k.0, few, blocks-fit (suc (length bs)) 0 _ b w.1, rest)
+      subst (λ (g : List Task × ℕ). FitsTasks (codes seen) g.0) (inside v.2) (low, z.0, z.1, z.2, z.3, sym (used_is x.0 seen) ∙ k.0, few, blocks_fit (suc (length bs)) 0 _ b w.1, rest)
 
-  tasks-fit : (n : ℕ) (seen : List Head) (p : ℕ) (ts : List Task × ℕ) → tasks_from bs n seen p ≡ Ok ts → FitsTasks (codes seen) ts.0
+  tasks_fit : (n : ℕ) (seen : List Head) (p : ℕ) (ts : List Task × ℕ) → tasks_from bs n seen p ≡ Ok ts → FitsTasks (codes seen) ts.0
   unfolding tasks_from
-  tasks-fit zero seen p ts e = refused e
-  tasks-fit (suc n) seen p ts e = task_fits n (tasks-fit n) seen p ts (answer Tasks bs p) refl e
+  tasks_fit zero seen p ts e = refused e
+  tasks_fit (suc n) seen p ts e = task_fits n (tasks_fit n) seen p ts (answer Tasks bs p) refl e
 
   -- a listing that is read fits
   pub read_fits : (l : Listing) → listing bs ≡ Ok l → bs ≡ encode l → Fits l
@@ -268,22 +268,22 @@ module _ (bs : List ℕ) where
       ⊎_elim
       (λ long. refused (sym (cond-true _ _ _ long) ∙ e))
       (λ fits.
-      let w = went (tasks-then bs) (routines_from bs (suc (length bs)) [] 0) l (sym (cond-false _ _ _ fits) ∙ e) in
+      let w = went (tasks_then bs) (routines_from bs (suc (length bs)) [] 0) l (sym (cond-false _ _ _ fits) ∙ e) in
       let rs : List Routine × ℕ = w.0 in
       let v = went (λ (ts : List Task × ℕ). Ok (record { routines = rs.0; tasks = ts.0 })) (tasks_from bs (suc (length bs)) [] rs.1) l w.2 in
       let it : record { routines = rs.0; tasks = v.0.0 } ≡ l = let h = v.2 in cc in
       let short : length (encode l) ≤ 32768 = subst (λ x. length x ≤ 32768) same (ltb-false 32768 (length bs) fits) in
-      let both = subst (λ (x : Listing). FitsRoutines [] x.routines × FitsTasks [] x.tasks) it (routines-fit (suc (length bs)) [] 0 rs w.1, tasks-fit (suc (length bs)) [] rs.1 v.0 v.1) in
+      let both = subst (λ (x : Listing). FitsRoutines [] x.routines × FitsTasks [] x.tasks) it (routines_fit (suc (length bs)) [] 0 rs w.1, tasks_fit (suc (length bs)) [] rs.1 v.0 v.1) in
       (both.0, both.1, short))
       (cases_Bool (ltb 32768 (length bs)))
 
-accepted-by : (bs : List ℕ) → AllByRecursion (λ b. b < 256) bs → (o : Outline) (r : Result Listing ReadFault) → listing bs ≡ r → told (Ok o) ≡ outline_of r → Accepted bs (Ok o)
-accepted-by bs all o (Ok l) e t = let same = accepted bs all l e in (l, e, same, read_fits bs l e same)
-accepted-by bs all o (Err f) e t = let z : ◌≡◌ {A = ℕ} 0 1 = cc in absurd (omega arith)
+accepted_by : (bs : List ℕ) → AllByRecursion (λ b. b < 256) bs → (o : Outline) (r : Result Listing ReadFault) → listing bs ≡ r → told (Ok o) ≡ outline_of r → Accepted bs (Ok o)
+accepted_by bs all o (Ok l) e t = let same = accepted bs all l e in (l, e, same, read_fits bs l e same)
+accepted_by bs all o (Err f) e t = let z : ◌≡◌ {A = ℕ} 0 1 = cc in absurd (omega arith)
 
 -- what is accepted is a tree that fits
 pub accepts_tree : (bs : List ℕ) → ((i : ℕ) → get_or bs i 0 < 256) → (o : Outline) → told (Ok o) ≡ outline_of (listing bs) → Accepted bs (Ok o)
-accepts_tree bs small o t = accepted-by bs (All-from_get_or (λ b. b < 256) bs 0 (λ i _. small i)) o (listing bs) refl t
+accepts_tree bs small o t = accepted_by bs (All-from_get_or (λ b. b < 256) bs 0 (λ i _. small i)) o (listing bs) refl t
 
 -- and no tree that fits is refused
 pub refuses_none : (bs : List ℕ) (f : ReadFault) → told (Err f) ≡ outline_of (listing bs) → Accepted bs (Err f)

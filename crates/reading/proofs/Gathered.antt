@@ -14,7 +14,7 @@ use Rattle.commands.specs.Commands.{answer, after}
 use Rattle.reading.specs.Heads.{head, used}
 use Rattle.reading.specs.Trees.{Run, Routine, Task, Blocks}
 use Rattle.reading.specs.Runs.{Ended, then, by_last, run_at, RunTold}
-use Rattle.reading.specs.Listings.{by_command, admit, closed, more-routines, routine_turn, routines_from, routine_head, routine_heads, more-tasks, task_turn, tasks_from, blocks_from, task_head, task_heads, blocks_end, heads_of, outline_of, tasks-then, listing}
+use Rattle.reading.specs.Listings.{by_command, admit, closed, more_routines, routine_turn, routines_from, routine_head, routine_heads, more_tasks, task_turn, tasks_from, blocks_from, task_head, task_heads, blocks_end, heads_of, outline_of, tasks_then, listing}
 use Rattle.reading.proofs.Turns.{WasRun, was_run, run_fault}
 
 abbrev pub Gathered : Type 0
@@ -25,16 +25,16 @@ abbrev pub onto : List Head → Gathered → Gathered
 onto seen (Ok hs) = Ok (seen ++ hs.0, hs.1)
 onto seen (Err f) = Err f
 
-onto-none : (g : Gathered) → onto [] g ≡ g
-onto-none (Ok hs) = refl
-onto-none (Err f) = refl
+onto_none : (g : Gathered) → onto [] g ≡ g
+onto_none (Ok hs) = refl
+onto_none (Err f) = refl
 
-onto-more : (seen : List Head) (h : Head) (g : Gathered) → onto seen (onto (h ∷ []) g) ≡ onto (seen ++ h ∷ []) g
-onto-more seen h (Ok hs) = ap (λ l. Ok (l, hs.1)) (sym (append_assoc seen (h ∷ []) hs.0))
-onto-more seen h (Err f) = refl
+onto_more : (seen : List Head) (h : Head) (g : Gathered) → onto seen (onto (h ∷ []) g) ≡ onto (seen ++ h ∷ []) g
+onto_more seen h (Ok hs) = ap (λ l. Ok (l, hs.1)) (sym (append_assoc seen (h ∷ []) hs.0))
+onto_more seen h (Err f) = refl
 
-onto-end : (seen : List Head) (q : ℕ) → onto seen (Ok ([], q)) ≡ Ok (seen, q)
-onto-end seen q = ap (λ l. Ok (l, q)) (append-nil seen)
+onto_end : (seen : List Head) (q : ℕ) → onto seen (Ok ([], q)) ≡ Ok (seen, q)
+onto_end seen q = ap (λ l. Ok (l, q)) (append-nil seen)
 
 -- a run that is not ended by 28
 not_closed : {X : Type 0} (c : Command) (t x : X) → (c ≡ command.EndRoutine → ⊥) → by_last x x x t x c ≡ x
@@ -70,7 +70,7 @@ no_routine (command.Point n m) r x h = refl
 no_routine command.EndTask r x h = refl
 no_routine command.Sheet r x h = refl
 
-one_routine : (n at : ℕ) (r : Run) (s : Result (List Routine × ℕ) ReadFault) → routine_heads (then (more-routines n at r) s) ≡ onto (head n at ∷ []) (routine_heads s)
+one_routine : (n at : ℕ) (r : Run) (s : Result (List Routine × ℕ) ReadFault) → routine_heads (then (more_routines n at r) s) ≡ onto (head n at ∷ []) (routine_heads s)
 one_routine n at r (Ok rs) = refl
 one_routine n at r (Err f) = refl
 
@@ -81,7 +81,7 @@ pub record Gathering (bs : List ℕ) (seen : List Head) (place : ℕ) (whole : G
   pub gives : whole ≡ onto seen (routine_heads (routines_from bs (suc left) seen place))
 
 pub first_routine : (bs : List ℕ) (place : ℕ) → Gathering bs [] place (routine_heads (routines_from bs (suc (length bs)) [] place))
-first_routine bs place = record { left = length bs; enough = omega arith; gives = sym (onto-none _) }
+first_routine bs place = record { left = length bs; enough = omega arith; gives = sym (onto_none _) }
 
 module _ (bs : List ℕ) (seen : List Head) (place : ℕ) (whole : Gathered) (g : Gathering bs seen place whole) where
   now_is : {r : _} → answer Top bs place ≡ r → whole ≡ onto seen (routine_heads (routine_turn bs seen (routines_from bs g.left) place (after Top bs place) r))
@@ -89,17 +89,17 @@ module _ (bs : List ℕ) (seen : List Head) (place : ℕ) (whole : Gathered) (g 
   now_is e = g.gives ∙ ap (λ r. onto seen (routine_heads (routine_turn bs seen (routines_from bs g.left) place (after Top bs place) r))) e
 
   pub no_more : answer Top bs place ≡ Ok None → whole ≡ Ok (seen, place)
-  no_more e = now_is e ∙ onto-end seen place
+  no_more e = now_is e ∙ onto_end seen place
 
-  pub past-routines : (at : ℕ) (c : Command) → answer Top bs place ≡ Ok (Some (at, c)) → ((n : ℕ) → c ≡ command.Routine n → ⊥) → whole ≡ Ok (seen, place)
-  past-routines at c e h = now_is e ∙ ap (λ r. onto seen (routine_heads r)) (no_routine c _ _ h) ∙ onto-end seen place
+  pub past_routines : (at : ℕ) (c : Command) → answer Top bs place ≡ Ok (Some (at, c)) → ((n : ℕ) → c ≡ command.Routine n → ⊥) → whole ≡ Ok (seen, place)
+  past_routines at c e h = now_is e ∙ ap (λ r. onto seen (routine_heads r)) (no_routine c _ _ h) ∙ onto_end seen place
 
   pub routine_fault : {f : ReadFault} → answer Top bs place ≡ Err f → whole ≡ Err f
   routine_fault e = now_is e
 
   module _ (at n : ℕ) (e : answer Top bs place ≡ Ok (Some (at, command.Routine n))) where
     body_rule : Run → ℕ → Result (List Routine × ℕ) ReadFault
-    body_rule r q = then (more-routines n at r) (routines_from bs g.left (seen ++ head n at ∷ []) q)
+    body_rule r q = then (more_routines n at r) (routines_from bs g.left (seen ++ head n at ∷ []) q)
 
     is_routine : whole ≡ onto seen (routine_heads (admit n at seen (then (closed body_rule) (run_at 9 bs at (after Top bs place)))))
     unfolding body_rule
@@ -124,7 +124,7 @@ module _ (bs : List ℕ) (seen : List Head) (place : ℕ) (whole : Gathered) (g 
             pub body_open : (r.last ≡ command.EndRoutine → ⊥) → whole ≡ Err (NotAllowed r.at)
             body_open o =
                 let u : WasRun of r q (run_at 9 bs at (after Top bs place)) = was_run of r q _ t in
-                body_is u.is ∙ ap (λ s. onto seen (routine_heads s)) (not_closed u.it.last _ _ (λ p. o (u.last-is ∙ p))) ∙ ap (λ m. Err (NotAllowed m)) (sym u.at-is)
+                body_is u.is ∙ ap (λ s. onto seen (routine_heads s)) (not_closed u.it.last _ _ (λ p. o (u.last_is ∙ p))) ∙ ap (λ m. Err (NotAllowed m)) (sym u.at_is)
 
             pub body_closed : r.last ≡ command.EndRoutine → place < q → place < length bs → Gathering bs (seen ++ head n at ∷ []) q whole
             unfolding body_rule
@@ -132,11 +132,11 @@ module _ (bs : List ℕ) (seen : List Head) (place : ℕ) (whole : Gathered) (g 
                 let u : WasRun of r q (run_at 9 bs at (after Top bs place)) = was_run of r q _ t in
                 let it : Ended = u.it in
                 let some : g.left ≡ suc (g.left - 1) = omega (arith, g.enough) in
-                let e = body_is u.is ∙ ap (λ s. onto seen (routine_heads s)) (ap (by_last _ _ _ _ _) (sym u.last-is ∙ o)) in
+                let e = body_is u.is ∙ ap (λ s. onto seen (routine_heads s)) (ap (by_last _ _ _ _ _) (sym u.last_is ∙ o)) in
                 record {
                   left = g.left - 1;
                   enough = omega (arith, g.enough);
-                  gives = e ∙ ap (onto seen) (one_routine n at it.run (routines_from bs g.left (seen ++ head n at ∷ []) it.place)) ∙ onto-more seen (head n at) _
+                  gives = e ∙ ap (onto seen) (one_routine n at it.run (routines_from bs g.left (seen ++ head n at ∷ []) it.place)) ∙ onto_more seen (head n at) _
                       ∙ (λ i. onto (seen ++ head n at ∷ []) (routine_heads (routines_from bs (some i) (seen ++ head n at ∷ []) (sym u.place_is i))));
                 }
 
@@ -160,7 +160,7 @@ no_task (command.Point n m) t x h = refl
 no_task command.EndTask t x h = refl
 no_task command.Sheet t x h = refl
 
-one_task : (n at p d : ℕ) (b : Blocks) (s : Result (List Task × ℕ) ReadFault) → task_heads (then (more-tasks n at p d b) s) ≡ onto (head n at ∷ []) (task_heads s)
+one_task : (n at p d : ℕ) (b : Blocks) (s : Result (List Task × ℕ) ReadFault) → task_heads (then (more_tasks n at p d b) s) ≡ onto (head n at ∷ []) (task_heads s)
 one_task n at p d b (Ok ts) = refl
 one_task n at p d b (Err f) = refl
 
@@ -171,15 +171,15 @@ pub record Tasking (bs : List ℕ) (seen : List Head) (place : ℕ) (whole : Gat
   pub gives : whole ≡ onto seen (task_heads (tasks_from bs (suc left) seen place))
 
 pub first_task : (bs : List ℕ) (place : ℕ) → Tasking bs [] place (task_heads (tasks_from bs (suc (length bs)) [] place))
-first_task bs place = record { left = length bs; enough = omega arith; gives = sym (onto-none _) }
+first_task bs place = record { left = length bs; enough = omega arith; gives = sym (onto_none _) }
 
 pub tasking_as : (bs : List ℕ) (seen seen' : List Head) (place : ℕ) (whole : Gathered) → seen ≡ seen' → Tasking bs seen place whole → Tasking bs seen' place whole
 tasking_as bs seen seen' place whole e g = subst (λ s. Tasking bs s place whole) e g
 
 -- where a task's blocks end
-pub blocks-were : (q : ℕ) (s : Result (Blocks × ℕ) ReadFault) → Ok q ≡ blocks_end s → (b : Blocks) × (s ≡ Ok (b, q))
-blocks-were q (Ok b) e = let p : q ≡ b.1 = cc in (b.0, ap (λ m. Ok (b.0, m)) (sym p))
-blocks-were q (Err f) e = let z : ◌≡◌ {A = ℕ} 0 1 = cc in absurd (omega arith)
+pub blocks_were : (q : ℕ) (s : Result (Blocks × ℕ) ReadFault) → Ok q ≡ blocks_end s → (b : Blocks) × (s ≡ Ok (b, q))
+blocks_were q (Ok b) e = let p : q ≡ b.1 = cc in (b.0, ap (λ m. Ok (b.0, m)) (sym p))
+blocks_were q (Err f) e = let z : ◌≡◌ {A = ℕ} 0 1 = cc in absurd (omega arith)
 
 pub blocks_fault : (f : ReadFault) (s : Result (Blocks × ℕ) ReadFault) → Err f ≡ blocks_end s → s ≡ Err f
 blocks_fault f (Ok b) e = let z : ◌≡◌ {A = ℕ} 0 1 = cc in absurd (omega arith)
@@ -191,7 +191,7 @@ module _ (bs : List ℕ) (seen : List Head) (place : ℕ) (whole : Gathered) (g 
   task_now e = g.gives ∙ ap (λ r. onto seen (task_heads (task_turn bs seen (tasks_from bs g.left) place (after Tasks bs place) r))) e
 
   pub no_more_tasks : answer Tasks bs place ≡ Ok None → whole ≡ Ok (seen, place)
-  no_more_tasks e = task_now e ∙ onto-end seen place
+  no_more_tasks e = task_now e ∙ onto_end seen place
 
   pub task_fault : {f : ReadFault} → answer Tasks bs place ≡ Err f → whole ≡ Err f
   task_fault e = task_now e
@@ -201,7 +201,7 @@ module _ (bs : List ℕ) (seen : List Head) (place : ℕ) (whole : Gathered) (g 
 
   module _ (at n p d : ℕ) (e : answer Tasks bs place ≡ Ok (Some (at, command.Task n p d))) where
     blocks_rule : Blocks × ℕ → Result (List Task × ℕ) ReadFault
-    blocks_rule b = then (more-tasks n at p d b.0) (tasks_from bs g.left (seen ++ head n at ∷ []) b.1)
+    blocks_rule b = then (more_tasks n at p d b.0) (tasks_from bs g.left (seen ++ head n at ∷ []) b.1)
 
     is_task : whole ≡ onto seen (task_heads (admit n at seen (then blocks_rule (blocks_from bs (suc (length bs)) 0 (after Tasks bs place)))))
     unfolding blocks_rule
@@ -224,18 +224,18 @@ module _ (bs : List ℕ) (seen : List Head) (place : ℕ) (whole : Gathered) (g 
         pub task_done : (q : ℕ) → Ok q ≡ blocks_end (blocks_from bs (suc (length bs)) 0 (after Tasks bs place)) → place < q → place < length bs → Tasking bs (seen ++ head n at ∷ []) q whole
         unfolding blocks_rule
         task_done q t forth inside =
-            let u = blocks-were q (blocks_from bs (suc (length bs)) 0 (after Tasks bs place)) t in
+            let u = blocks_were q (blocks_from bs (suc (length bs)) 0 (after Tasks bs place)) t in
             let b : Blocks = u.0 in
             let some : g.left ≡ suc (g.left - 1) = omega (arith, g.enough) in
             record {
               left = g.left - 1;
               enough = omega (arith, g.enough);
-              gives = blocks_are u.1 ∙ ap (onto seen) (one_task n at p d b (tasks_from bs g.left (seen ++ head n at ∷ []) q)) ∙ onto-more seen (head n at) _
+              gives = blocks_are u.1 ∙ ap (onto seen) (one_task n at p d b (tasks_from bs g.left (seen ++ head n at ∷ []) q)) ∙ onto_more seen (head n at) _
                   ∙ ap (λ m. onto (seen ++ head n at ∷ []) (task_heads (tasks_from bs m (seen ++ head n at ∷ []) q))) some;
             }
 
-pub blocks-there : (b b' : List ℕ) (p p' : ℕ) (r : Result ℕ ReadFault) → b ≡ b' → p ≡ p' → r ≡ blocks_end (blocks_from b (suc (length b)) 0 p) → r ≡ blocks_end (blocks_from b' (suc (length b')) 0 p')
-blocks-there b b' p p' r e f t = t ∙ (λ i. blocks_end (blocks_from (e i) (suc (length (e i))) 0 (f i)))
+pub blocks_there : (b b' : List ℕ) (p p' : ℕ) (r : Result ℕ ReadFault) → b ≡ b' → p ≡ p' → r ≡ blocks_end (blocks_from b (suc (length b)) 0 p) → r ≡ blocks_end (blocks_from b' (suc (length b')) 0 p')
+blocks_there b b' p p' r e f t = t ∙ (λ i. blocks_end (blocks_from (e i) (suc (length (e i))) 0 (f i)))
 
 -- what was gathered, from its heads
 pub heads_were : {X : Type 0} (h : X → Head) (hs : List Head) (q : ℕ) (s : Result (List X × ℕ) ReadFault) → Ok (hs, q) ≡ heads_of h s → (xs : List X) × (s ≡ Ok (xs, q)) × (hs ≡ map h xs)
@@ -257,27 +257,27 @@ module _ (bs b : List ℕ) (p : ℕ) (short : length bs ≤ 32768) (e : b ≡ bs
   from_start : {r : Gathered} → r ≡ routine_heads (routines_from b (suc (length b)) [] p) → r ≡ routine_heads (routines_from bs (suc (length bs)) [] 0)
   from_start t = t ∙ (λ i. routine_heads (routines_from (e i) (suc (length (e i))) [] (z i)))
 
-  listing-is : {r : _} → routines_from bs (suc (length bs)) [] 0 ≡ r → listing bs ≡ then (tasks-then bs) r
+  listing_is : {r : _} → routines_from bs (suc (length bs)) [] 0 ≡ r → listing bs ≡ then (tasks_then bs) r
   unfolding listing
-  listing-is i = cond-false _ _ _ (le-ltb _ _ short) ∙ ap (then (tasks-then bs)) i
+  listing_is i = cond-false _ _ _ (le-ltb _ _ short) ∙ ap (then (tasks_then bs)) i
 
   pub routines_fault : (f : ReadFault) → Err f ≡ routine_heads (routines_from b (suc (length b)) [] p) → Err f ≡ outline_of (listing bs)
-  routines_fault f t = sym (ap outline_of (listing-is (heads_fault routine_head f _ (from_start t))))
+  routines_fault f t = sym (ap outline_of (listing_is (heads_fault routine_head f _ (from_start t))))
 
   module _ (rs : List Head) (q : ℕ) (t : Ok (rs, q) ≡ routine_heads (routines_from b (suc (length b)) [] p)) (d : List ℕ) (g : d ≡ bs) where
     were : (xs : List Routine) × (routines_from bs (suc (length bs)) [] 0 ≡ Ok (xs, q)) × (rs ≡ map routine_head xs)
     were = heads_were routine_head rs q (routines_from bs (suc (length bs)) [] 0) (from_start t)
 
-    tasks-from : {r : Gathered} → r ≡ task_heads (tasks_from d (suc (length d)) [] q) → r ≡ task_heads (tasks_from bs (suc (length bs)) [] q)
-    tasks-from u = u ∙ ap (λ x. task_heads (tasks_from x (suc (length x)) [] q)) g
+    tasks_from_lem : {r : Gathered} → r ≡ task_heads (tasks_from d (suc (length d)) [] q) → r ≡ task_heads (tasks_from bs (suc (length bs)) [] q)
+    tasks_from_lem u = u ∙ ap (λ x. task_heads (tasks_from x (suc (length x)) [] q)) g
 
     tasks_are : {r : _} → tasks_from bs (suc (length bs)) [] q ≡ r → listing bs ≡ then (λ (ts : List Task × ℕ). Ok (record { routines = were.0; tasks = ts.0 })) r
-    tasks_are i = listing-is were.1 ∙ ap (then (λ (ts : List Task × ℕ). Ok (record { routines = were.0; tasks = ts.0 }))) i
+    tasks_are i = listing_is were.1 ∙ ap (then (λ (ts : List Task × ℕ). Ok (record { routines = were.0; tasks = ts.0 }))) i
 
     pub tasks_fault : (f : ReadFault) → Err f ≡ task_heads (tasks_from d (suc (length d)) [] q) → Err f ≡ outline_of (listing bs)
-    tasks_fault f u = sym (ap outline_of (tasks_are (heads_fault task_head f _ (tasks-from u))))
+    tasks_fault f u = sym (ap outline_of (tasks_are (heads_fault task_head f _ (tasks_from_lem u))))
 
     pub all_read : (ts : List Head) (m : ℕ) → Ok (ts, m) ≡ task_heads (tasks_from d (suc (length d)) [] q) → Ok (rs, ts) ≡ outline_of (listing bs)
     all_read ts m u =
-        let w = heads_were task_head ts m (tasks_from bs (suc (length bs)) [] q) (tasks-from u) in
+        let w = heads_were task_head ts m (tasks_from bs (suc (length bs)) [] q) (tasks_from_lem u) in
         (λ i. Ok (were.2 i, w.2 i)) ∙ sym (ap outline_of (tasks_are w.1))

@@ -7,7 +7,7 @@ use Rattle.commands.specs.declared.table.Command.TheVariants.{Routine, Work, Cal
 use Rattle.commands.specs.declared.table.Context.TheVariants.{Body}
 use Rattle.commands.specs.Commands.{answer, after}
 use Rattle.reading.specs.Trees.{Item, work, call, either, repeat, Run, done, next, Arms, one, more}
-use Rattle.reading.specs.Runs.{Ended, Parsed, Armed, then, by_last, ends, more-arms, arms_by, an_either, a_repeat, item_of, more_items, turn, run_with, run_at}
+use Rattle.reading.specs.Runs.{Ended, Parsed, Armed, then, by_last, ends, more_arms, arms_by, an_either, a_repeat, item_of, more_items, turn, run_with, run_at}
 use Rattle.commands.proofs.Decoded.{here}
 
 -- a command is read at a place, and leads to another
@@ -62,66 +62,66 @@ arm_by (Point n m) o e f x h = never h
 arm_by EndTask o e f x h = never h
 arm_by Sheet o e f x h = never h
 
-pub repeat-by : {X : Type 0} (c : Command) (r : Result X ReadFault) (f : ReadFault) (x : X) → by_last (Err f) (Err f) r (Err f) (Err f) c ≡ Ok x → (c ≡ EndRepeat) × (r ≡ Ok x)
-repeat-by (Routine n) r f x h = never h
-repeat-by (Work n) r f x h = never h
-repeat-by (Call n) r f x h = never h
-repeat-by Either r f x h = never h
-repeat-by Or r f x h = never h
-repeat-by EndEither r f x h = never h
-repeat-by (Repeat n) r f x h = never h
-repeat-by EndRepeat r f x h = (refl, h)
-repeat-by EndRoutine r f x h = never h
-repeat-by (Task n m k) r f x h = never h
-repeat-by (Block n) r f x h = never h
-repeat-by (Point n m) r f x h = never h
-repeat-by EndTask r f x h = never h
-repeat-by Sheet r f x h = never h
+pub repeat_by : {X : Type 0} (c : Command) (r : Result X ReadFault) (f : ReadFault) (x : X) → by_last (Err f) (Err f) r (Err f) (Err f) c ≡ Ok x → (c ≡ EndRepeat) × (r ≡ Ok x)
+repeat_by (Routine n) r f x h = never h
+repeat_by (Work n) r f x h = never h
+repeat_by (Call n) r f x h = never h
+repeat_by Either r f x h = never h
+repeat_by Or r f x h = never h
+repeat_by EndEither r f x h = never h
+repeat_by (Repeat n) r f x h = never h
+repeat_by EndRepeat r f x h = (refl, h)
+repeat_by EndRoutine r f x h = never h
+repeat_by (Task n m k) r f x h = never h
+repeat_by (Block n) r f x h = never h
+repeat_by (Point n m) r f x h = never h
+repeat_by EndTask r f x h = never h
+repeat_by Sheet r f x h = never h
 
 module _ (bs : List ℕ) (d : ℕ) (inner : (opener p : ℕ) (e : Ended) → run_at d bs opener p ≡ Ok e → Reads bs p e) where
-  arms-read : (n at p : ℕ) (q : Armed) → arms_by (run_at d bs at) bs n p ≡ Ok q → ReadsArms bs p q.arms q.end
+  arms_read : (n at p : ℕ) (q : Armed) → arms_by (run_at d bs at) bs n p ≡ Ok q → ReadsArms bs p q.arms q.end
   unfolding arms_by
-  arms-read zero at p q e = never e
-  arms-read (suc n) at p q e =
+  arms_read zero at p q e = never e
+  arms_read (suc n) at p q e =
       let w = went _ (run_at d bs at p) q e in
       let x : Ended = w.0 in
       let r : Reads bs p x = inner at p x w.1 in
       ⊎_elim
       (λ more-to-come.
-      let v = went (more-arms x.run) (arms_by (run_at d bs at) bs n x.place) q more-to-come.1 in
-      let rest = arms-read n at x.place v.0 v.1 in
+      let v = went (more_arms x.run) (arms_by (run_at d bs at) bs n x.place) q more-to-come.1 in
+      let rest = arms_read n at x.place v.0 v.1 in
       subst (λ (y : Armed). ReadsArms bs p y.arms y.end) (inside v.2) (r.0, x.place, r.1, subst (λ c. Cmd bs r.0 c x.place) more-to-come.0 r.2, rest))
-      (λ at-end. subst (λ (y : Armed). ReadsArms bs p y.arms y.end) (inside at-end.1) (r.0, r.1, subst (λ c. Cmd bs r.0 c x.place) at-end.0 r.2))
+      (λ at_end. subst (λ (y : Armed). ReadsArms bs p y.arms y.end) (inside at_end.1) (r.0, r.1, subst (λ c. Cmd bs r.0 c x.place) at_end.0 r.2))
       (arm_by x.last _ _ _ q w.2)
 
-  item-read : (p at : ℕ) (c : Command) (m : ℕ) (i : Parsed) → at ≡ p → Cmd bs p c m → item_of (run_at d bs) bs at c m ≡ Ok i → ReadsItem bs p i.item i.end
-  item-read p at (Routine t) m i h k e = never e
-  item-read p at (Work t) m i h k e = subst (λ (y : Parsed). ReadsItem bs p y.item y.end) (inside e) k
-  item-read p at (Call t) m i h k e = subst (λ (y : Parsed). ReadsItem bs p y.item y.end) (inside e) (h, k)
-  item-read p at Either m i h k e =
+  item_read : (p at : ℕ) (c : Command) (m : ℕ) (i : Parsed) → at ≡ p → Cmd bs p c m → item_of (run_at d bs) bs at c m ≡ Ok i → ReadsItem bs p i.item i.end
+  item_read p at (Routine t) m i h k e = never e
+  item_read p at (Work t) m i h k e = subst (λ (y : Parsed). ReadsItem bs p y.item y.end) (inside e) k
+  item_read p at (Call t) m i h k e = subst (λ (y : Parsed). ReadsItem bs p y.item y.end) (inside e) (h, k)
+  item_read p at Either m i h k e =
       let w = went an_either (arms_by (run_at d bs at) bs (suc (length bs)) m) i e in
-      subst (λ (y : Parsed). ReadsItem bs p y.item y.end) (inside w.2) (m, k, arms-read (suc (length bs)) at m w.0 w.1)
-  item-read p at Or m i h k e = never e
-  item-read p at EndEither m i h k e = never e
-  item-read p at (Repeat t) m i h k e =
+      subst (λ (y : Parsed). ReadsItem bs p y.item y.end) (inside w.2) (m, k, arms_read (suc (length bs)) at m w.0 w.1)
+  item_read p at Or m i h k e = never e
+  item_read p at EndEither m i h k e = never e
+  item_read p at (Repeat t) m i h k e =
       let w = went (a_repeat t) (run_at d bs at m) i e in
       let x : Ended = w.0 in
       let r : Reads bs m x = inner at m x w.1 in
-      let b = repeat-by x.last _ _ i w.2 in
+      let b = repeat_by x.last _ _ i w.2 in
       subst (λ (y : Parsed). ReadsItem bs p y.item y.end) (inside b.1) (m, r.0, k, r.1, subst (λ y. Cmd bs r.0 y x.place) b.0 r.2)
-  item-read p at EndRepeat m i h k e = never e
-  item-read p at EndRoutine m i h k e = never e
-  item-read p at (Task t u v) m i h k e = never e
-  item-read p at (Block t) m i h k e = never e
-  item-read p at (Point t u) m i h k e = never e
-  item-read p at EndTask m i h k e = never e
-  item-read p at Sheet m i h k e = never e
+  item_read p at EndRepeat m i h k e = never e
+  item_read p at EndRoutine m i h k e = never e
+  item_read p at (Task t u v) m i h k e = never e
+  item_read p at (Block t) m i h k e = never e
+  item_read p at (Point t u) m i h k e = never e
+  item_read p at EndTask m i h k e = never e
+  item_read p at Sheet m i h k e = never e
 
   module _ (n : ℕ) (more-read : (p : ℕ) (e : Ended) → run_with (item_of (run_at d bs) bs) bs n p ≡ Ok e → Reads bs p e) where
-    turn-read : (p : ℕ) (e : Ended) (r : Result (Option (ℕ × Command)) ReadFault) → answer Body bs p ≡ r → turn (item_of (run_at d bs) bs) (run_with (item_of (run_at d bs) bs) bs n) bs (after Body bs p) r ≡ Ok e → Reads bs p e
-    turn-read p e (Ok None) a h = never h
-    turn-read p e (Err f) a h = never h
-    turn-read p e (Ok (Some c)) a h =
+    turn_read : (p : ℕ) (e : Ended) (r : Result (Option (ℕ × Command)) ReadFault) → answer Body bs p ≡ r → turn (item_of (run_at d bs) bs) (run_with (item_of (run_at d bs) bs) bs n) bs (after Body bs p) r ≡ Ok e → Reads bs p e
+    turn_read p e (Ok None) a h = never h
+    turn_read p e (Err f) a h = never h
+    turn_read p e (Ok (Some c)) a h =
         let at_p : c.0 ≡ p = here Body bs p c.0 c.1 a in
         let k : Cmd bs p c.1 (after Body bs p) = (a ∙ ap (λ x. Ok (Some (x, c.1))) at_p, refl) in
         ⊎_elim
@@ -131,16 +131,16 @@ module _ (bs : List ℕ) (d : ℕ) (inner : (opener p : ℕ) (e : Ended) → run
         let i : Parsed = w.0 in
         let v = went (more_items i.item) (run_with (item_of (run_at d bs) bs) bs n i.end) e w.2 in
         let rest : Reads bs i.end v.0 = more-read i.end v.0 v.1 in
-        subst (λ (y : Ended). Reads bs p y) (inside v.2) (rest.0, (i.end, item-read p c.0 c.1 (after Body bs p) i at_p k w.1, rest.1), rest.2))
+        subst (λ (y : Ended). Reads bs p y) (inside v.2) (rest.0, (i.end, item_read p c.0 c.1 (after Body bs p) i at_p k w.1, rest.1), rest.2))
         (cases_Bool (ends c.1))
 
   with_read : (n p : ℕ) (e : Ended) → run_with (item_of (run_at d bs) bs) bs n p ≡ Ok e → Reads bs p e
   unfolding run_with
   with_read zero p e h = never h
-  with_read (suc n) p e h = turn-read n (with_read n) p e (answer Body bs p) refl h
+  with_read (suc n) p e h = turn_read n (with_read n) p e (answer Body bs p) refl h
 
 -- a run that is read is its tree, command by command
-pub run-reads : (d : ℕ) (bs : List ℕ) (opener p : ℕ) (e : Ended) → run_at d bs opener p ≡ Ok e → Reads bs p e
+pub run_reads : (d : ℕ) (bs : List ℕ) (opener p : ℕ) (e : Ended) → run_at d bs opener p ≡ Ok e → Reads bs p e
 unfolding run_at
-run-reads zero bs opener p e h = never h
-run-reads (suc d) bs opener p e h = with_read bs d (run-reads d bs) (suc (length bs)) p e h
+run_reads zero bs opener p e h = never h
+run_reads (suc d) bs opener p e h = with_read bs d (run_reads d bs) (suc (length bs)) p e h

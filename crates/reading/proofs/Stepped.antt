@@ -8,7 +8,7 @@ use Rattle.commands.specs.declared.table.Context.TheVariants.{BlockDue, AfterBlo
 use Rattle.commands.specs.Commands.{answer, after}
 use Rattle.reading.specs.Heads.{head}
 use Rattle.reading.specs.Trees.{Blocks, final, block}
-use Rattle.reading.specs.Listings.{by_command, onward, more-blocks, after_block, a_block, blocks_from}
+use Rattle.reading.specs.Listings.{by_command, onward, more_blocks, after_block, a_block, blocks_from}
 use Rattle.reading.specs.Steps.{block_of, point_of}
 use Rattle.reading.proofs.Spelled.{went}
 
@@ -71,7 +71,7 @@ followed bs n count p at c b (Err f) e h = refused h
 followed bs n count p at c b (Ok (Some k)) e h =
     ⊎_elim
     (λ x.
-    let w = went (more-blocks at c x.0 x.1) (blocks_from bs n (count + 1) (after AfterBlock bs p)) b x.3 in
+    let w = went (more_blocks at c x.0 x.1) (blocks_from bs n (count + 1) (after AfterBlock bs p)) b x.3 in
     let same : (block at c x.0 x.1 w.0.0, w.0.1) ≡ b = let h = w.2 in cc in
     inr (
       x.0,

@@ -9,7 +9,7 @@ use Rattle.faults.specs.declared.fault.ReadFault.TheVariants.{NotAllowed, Open, 
 use Rattle.reading.specs.declared.walk.Ran.{Ran}
 use Rattle.commands.specs.Commands.{answer, after}
 use Rattle.reading.specs.Trees.{Item, Run, one, item_cost, run_cost, cost_arms}
-use Rattle.reading.specs.Runs.{Ended, Parsed, Armed, then, by_last, ends, more-arms, arms_by, an_either, a_repeat, item_of, more_items, turn, run_with, run_at, ran, cap_run, RunTold, ItemTold}
+use Rattle.reading.specs.Runs.{Ended, Parsed, Armed, then, by_last, ends, more_arms, arms_by, an_either, a_repeat, item_of, more_items, turn, run_with, run_at, ran, cap_run, RunTold, ItemTold}
 
 abbrev Answer : Type 0
 Answer = Result Ended ReadFault
@@ -49,13 +49,13 @@ abbrev at_least : ℕ → Price → Price
 at_least n (Ok p) = Ok (max n p.0, p.1)
 at_least n (Err f) = Err f
 
-plus-zero : (r : Gone) → plus 0 r ≡ r
-plus-zero (Ok r) = ap (λ n. Ok (record { cost = n; last = r.0.last; at = r.0.at }, r.1)) (zero-add r.0.cost)
-plus-zero (Err f) = refl
+plus_zero : (r : Gone) → plus 0 r ≡ r
+plus_zero (Ok r) = ap (λ n. Ok (record { cost = n; last = r.0.last; at = r.0.at }, r.1)) (zero-add r.0.cost)
+plus_zero (Err f) = refl
 
-plus-plus : (m n : ℕ) (r : Gone) → plus m (plus n r) ≡ plus (m + n) r
-plus-plus m n (Ok r) = ap (λ k. Ok (record { cost = k; last = r.0.last; at = r.0.at }, r.1)) (sym (add_assoc m n r.0.cost))
-plus-plus m n (Err f) = refl
+plus_plus : (m n : ℕ) (r : Gone) → plus m (plus n r) ≡ plus (m + n) r
+plus_plus m n (Ok r) = ap (λ k. Ok (record { cost = k; last = r.0.last; at = r.0.at }, r.1)) (sym (add_assoc m n r.0.cost))
+plus_plus m n (Err f) = refl
 
 at_least_zero : (p : Price) → at_least 0 p ≡ p
 at_least_zero (Ok p) = let e : max 0 p.0 ≡ p.0 = omega arith in ap (λ n. Ok (n, p.1)) e
@@ -70,28 +70,28 @@ module _ (of : ℕ → ℕ) where
   items_cost i (Ok e) = refl
   items_cost i (Err f) = refl
 
-  arms-cost : (r : Run) (s : Result Armed ReadFault) → arms_price of (then (more-arms r) s) ≡ at_least (run_cost of r) (arms_price of s)
-  arms-cost r (Ok q) = refl
-  arms-cost r (Err f) = refl
+  arms_cost : (r : Run) (s : Result Armed ReadFault) → arms_price of (then (more_arms r) s) ≡ at_least (run_cost of r) (arms_price of s)
+  arms_cost r (Ok q) = refl
+  arms_cost r (Err f) = refl
 
-  either-cost : (s : Result Armed ReadFault) → price of (then an_either s) ≡ arms_price of s
-  either-cost (Ok q) = refl
-  either-cost (Err f) = refl
+  either_cost : (s : Result Armed ReadFault) → price of (then an_either s) ≡ arms_price of s
+  either_cost (Ok q) = refl
+  either_cost (Err f) = refl
 
   -- what a run was, from what is told of it
   pub record WasRun (r : Ran) (q : ℕ) (s : Answer) : Type 0 where
     pub it : Ended
     pub is : s ≡ Ok it
-    pub cost-is : r.cost ≡ min (run_cost of it.run) 1000001
-    pub last-is : r.last ≡ it.last
-    pub at-is : r.at ≡ it.at
+    pub cost_is : r.cost ≡ min (run_cost of it.run) 1000001
+    pub last_is : r.last ≡ it.last
+    pub at_is : r.at ≡ it.at
     pub place_is : q ≡ it.place
 
   pub was_run : (r : Ran) (q : ℕ) (s : Answer) → RunTold of (Ok r) q s → WasRun r q s
   was_run r q (Ok e) t =
       let says : Ok r ≡ cap_run (ran of (Ok e)) = t.says in
       let p : r ≡ record { cost = min (run_cost of e.run) 1000001; last = e.last; at = e.at } = cc in
-      record { it = e; is = refl; cost-is = ap (λ (x : Ran). x.cost) p; last-is = ap (λ (x : Ran). x.last) p; at-is = ap (λ (x : Ran). x.at) p; place_is = t.stands }
+      record { it = e; is = refl; cost_is = ap (λ (x : Ran). x.cost) p; last_is = ap (λ (x : Ran). x.last) p; at_is = ap (λ (x : Ran). x.at) p; place_is = t.stands }
   was_run r q (Err f) t = clash t.says
 
   pub run_fault : (f : ReadFault) (q : ℕ) (s : Answer) → RunTold of (Err f) q s → s ≡ Err f
@@ -157,7 +157,7 @@ pub start : (of : ℕ → ℕ) (d opener at : ℕ) (bs : List ℕ) → 0 < d →
 unfolding run_at
 start of d opener at bs h =
     let e : d ≡ suc (d - 1) = omega arith in
-    record { left = length bs; true_total = 0; enough = omega arith; paid = refl; gives = ap (λ k. gone of (run_at k bs opener at)) e ∙ sym (plus-zero _) }
+    record { left = length bs; true_total = 0; enough = omega arith; paid = refl; gives = ap (λ k. gone of (run_at k bs opener at)) e ∙ sym (plus_zero _) }
 
 module _ (of : ℕ → ℕ) (d : ℕ) (bs : List ℕ) (total place : ℕ) (whole : Answer) (g : Going of d bs total place whole) where
   now_is : {r : _} → answer Body bs place ≡ r → gone of whole ≡ plus g.true_total (gone of (turn (item_at d bs) (run_with (item_at d bs) bs g.left) bs (after Body bs place) r))
@@ -171,8 +171,8 @@ module _ (of : ℕ → ℕ) (d : ℕ) (bs : List ℕ) (total place : ℕ) (whole
   at_fault e = now_is e
 
   module _ (at : ℕ) (c : Command) (e : answer Body bs place ≡ Ok (Some (at, c))) where
-    pub at-end : ends c ≡ true → (q : ℕ) → q ≡ after Body bs place → RunTold of (Ok (record { cost = total; last = c; at = at })) q whole
-    at-end h q is =
+    pub at_end : ends c ≡ true → (q : ℕ) → q ≡ after Body bs place → RunTold of (Ok (record { cost = total; last = c; at = at })) q whole
+    at_end h q is =
         let e = now_is e ∙ ap (λ s. plus g.true_total (gone of s)) (cond-true _ _ _ h) in
         run_ok of whole _ _ q _ e (omega (arith, g.paid)) refl refl is
 
@@ -195,7 +195,7 @@ module _ (of : ℕ → ℕ) (d : ℕ) (bs : List ℕ) (total place : ℕ) (whole
             true_total = g.true_total + item_cost of p.item;
             enough = omega (arith, g.enough);
             paid = omega (arith, g.paid, u.2);
-            gives = goes u.1 ∙ ap (plus g.true_total) (items_cost of p.item (run_with (item_at d bs) bs g.left p.end)) ∙ plus-plus g.true_total (item_cost of p.item) _
+            gives = goes u.1 ∙ ap (plus g.true_total) (items_cost of p.item (run_with (item_at d bs) bs g.left p.end)) ∙ plus_plus g.true_total (item_cost of p.item) _
                 ∙ (λ i. plus (g.true_total + item_cost of p.item) (gone of (run_with (item_at d bs) bs (some i) (sym u.3 i))));
           }
 
@@ -209,7 +209,7 @@ pub record Arming (of : ℕ → ℕ) (d : ℕ) (bs : List ℕ) (at best place : 
 
 pub first_arm : (of : ℕ → ℕ) (d at place : ℕ) (bs : List ℕ) → Arming of d bs at 0 place (item_at d bs at Either place)
 first_arm of d at place bs =
-    record { left = length bs; true_best = 0; enough = omega arith; paid = refl; gives = either-cost of (arms_by (run_at d bs at) bs (suc (length bs)) place) ∙ sym (at_least_zero _) }
+    record { left = length bs; true_best = 0; enough = omega arith; paid = refl; gives = either_cost of (arms_by (run_at d bs at) bs (suc (length bs)) place) ∙ sym (at_least_zero _) }
 
 -- a command that is neither 24 nor 25
 pub no_arm : {X : Type 0} (c : Command) (o e x : X) → (c ≡ Or → ⊥) → (c ≡ EndEither → ⊥) → by_last o e x x x c ≡ x
@@ -231,7 +231,7 @@ no_arm Sheet o e x h k = refl
 module _ (of : ℕ → ℕ) (d : ℕ) (bs : List ℕ) (at best place : ℕ) (whole : Result Parsed ReadFault) (g : Arming of d bs at best place whole) where
   arm_rule : Ended → Result Armed ReadFault
   arm_rule e =
-      by_last (then (more-arms e.run) (arms_by (run_at d bs at) bs g.left e.place)) (Ok (record { arms = one e.run; end = e.place })) (Err (NotAllowed e.at)) (Err (NotAllowed e.at)) (Err (NotAllowed e.at)) e.last
+      by_last (then (more_arms e.run) (arms_by (run_at d bs at) bs g.left e.place)) (Ok (record { arms = one e.run; end = e.place })) (Err (NotAllowed e.at)) (Err (NotAllowed e.at)) (Err (NotAllowed e.at)) e.last
 
   arm_is : {r : _} → run_at d bs at place ≡ r → price of whole ≡ at_least g.true_best (arms_price of (then arm_rule r))
   unfolding arms_by arm_rule
@@ -245,14 +245,14 @@ module _ (of : ℕ → ℕ) (d : ℕ) (bs : List ℕ) (at best place : ℕ) (who
     unfolding arm_rule
     arm_last h =
         let u : WasRun of r q (run_at d bs at place) = was_run of r q _ t in
-        let e = arm_is u.is ∙ ap (λ s. at_least g.true_best (arms_price of s)) (ap (by_last _ _ _ _ _) (sym u.last-is ∙ h)) in
-        item_ok of _ _ _ _ _ e (omega (arith, u.cost-is, g.paid)) u.place_is
+        let e = arm_is u.is ∙ ap (λ s. at_least g.true_best (arms_price of s)) (ap (by_last _ _ _ _ _) (sym u.last_is ∙ h)) in
+        item_ok of _ _ _ _ _ e (omega (arith, u.cost_is, g.paid)) u.place_is
 
     pub arm_none : (r.last ≡ Or → ⊥) → (r.last ≡ EndEither → ⊥) → price of whole ≡ Err (NotAllowed r.at)
     unfolding arm_rule
     arm_none h k =
         let u : WasRun of r q (run_at d bs at place) = was_run of r q _ t in
-        arm_is u.is ∙ ap (λ s. at_least g.true_best (arms_price of s)) (no_arm u.it.last _ _ _ (λ p. h (u.last-is ∙ p)) (λ p. k (u.last-is ∙ p))) ∙ ap (λ n. Err (NotAllowed n)) (sym u.at-is)
+        arm_is u.is ∙ ap (λ s. at_least g.true_best (arms_price of s)) (no_arm u.it.last _ _ _ (λ p. h (u.last_is ∙ p)) (λ p. k (u.last_is ∙ p))) ∙ ap (λ n. Err (NotAllowed n)) (sym u.at_is)
 
     pub arm_next : r.last ≡ Or → place < q → place < length bs → Arming of d bs at (max r.cost best) q whole
     unfolding arm_rule
@@ -260,28 +260,28 @@ module _ (of : ℕ → ℕ) (d : ℕ) (bs : List ℕ) (at best place : ℕ) (who
         let u : WasRun of r q (run_at d bs at place) = was_run of r q _ t in
         let it : Ended = u.it in
         let some : g.left ≡ suc (g.left - 1) = omega (arith, g.enough) in
-        let e = arm_is u.is ∙ ap (λ s. at_least g.true_best (arms_price of s)) (ap (by_last _ _ _ _ _) (sym u.last-is ∙ h)) in
+        let e = arm_is u.is ∙ ap (λ s. at_least g.true_best (arms_price of s)) (ap (by_last _ _ _ _ _) (sym u.last_is ∙ h)) in
         record {
           left = g.left - 1;
           true_best = max g.true_best (run_cost of it.run);
           enough = omega (arith, g.enough);
-          paid = omega (arith, u.cost-is, g.paid);
-          gives = e ∙ ap (at_least g.true_best) (arms-cost of it.run (arms_by (run_at d bs at) bs g.left it.place)) ∙ at_least_twice g.true_best (run_cost of it.run) _
+          paid = omega (arith, u.cost_is, g.paid);
+          gives = e ∙ ap (at_least g.true_best) (arms_cost of it.run (arms_by (run_at d bs at) bs g.left it.place)) ∙ at_least_twice g.true_best (run_cost of it.run) _
               ∙ (λ i. at_least (max g.true_best (run_cost of it.run)) (arms_price of (arms_by (run_at d bs at) bs (some i) (sym u.place_is i))));
         }
 
 -- a repeat
 module _ (of : ℕ → ℕ) (d : ℕ) (bs : List ℕ) (at place : ℕ) (c : Command) (k : ℕ) (is : c ≡ Repeat k) where
-  turns-is : {r : _} → run_at d bs at place ≡ r → item_at d bs at c place ≡ then (a_repeat k) r
-  turns-is e = ap (λ x. item_at d bs at x place) is ∙ ap (then (a_repeat k)) e
+  turns_is : {r : _} → run_at d bs at place ≡ r → item_at d bs at c place ≡ then (a_repeat k) r
+  turns_is e = ap (λ x. item_at d bs at x place) is ∙ ap (then (a_repeat k)) e
 
   module _ (r : Ran) (q : ℕ) (t : RunTold of (Ok r) q (run_at d bs at place)) where
-    pub turns-last : (n : ℕ) → r.last ≡ EndRepeat → n ≡ min (k * r.cost) 1000001 → ItemTold of (Ok n) q (item_at d bs at c place)
-    turns-last n h pays =
+    pub turns_last : (n : ℕ) → r.last ≡ EndRepeat → n ≡ min (k * r.cost) 1000001 → ItemTold of (Ok n) q (item_at d bs at c place)
+    turns_last n h pays =
         let u : WasRun of r q (run_at d bs at place) = was_run of r q _ t in
         let it : Ended = u.it in
-        let e = turns-is u.is ∙ ap (by_last _ _ _ _ _) (sym u.last-is ∙ h) in
-        item_ok of _ _ _ _ _ (ap (price of) e) (pays ∙ cap_product k r.cost (run_cost of it.run) u.cost-is) u.place_is
+        let e = turns_is u.is ∙ ap (by_last _ _ _ _ _) (sym u.last_is ∙ h) in
+        item_ok of _ _ _ _ _ (ap (price of) e) (pays ∙ cap_product k r.cost (run_cost of it.run) u.cost_is) u.place_is
 
 -- a command that ends no run
 pub no_end : (c : Command) → (c ≡ Or → ⊥) → (c ≡ EndEither → ⊥) → (c ≡ EndRepeat → ⊥) → (c ≡ EndRoutine → ⊥) → false ≡ ends c
@@ -301,11 +301,11 @@ no_end EndTask h i j k = refl
 no_end Sheet h i j k = refl
 
 -- the same bytes, the same place, the same command
-pub item-there : (of : ℕ → ℕ) (d : ℕ) (b b' : List ℕ) (at : ℕ) (c : Command) (p p' q : ℕ) (r : Result ℕ ReadFault) → b ≡ b' → p ≡ p' → ItemTold of r q (item_at d b at c p) → ItemTold of r q (item_at d b' at c p')
-item-there of d b b' at c p p' q r e f t = subst (λ x. ItemTold of r q (item_at d x at c p')) e (subst (λ x. ItemTold of r q (item_at d b at c x)) f t)
+pub item_there : (of : ℕ → ℕ) (d : ℕ) (b b' : List ℕ) (at : ℕ) (c : Command) (p p' q : ℕ) (r : Result ℕ ReadFault) → b ≡ b' → p ≡ p' → ItemTold of r q (item_at d b at c p) → ItemTold of r q (item_at d b' at c p')
+item_there of d b b' at c p p' q r e f t = subst (λ x. ItemTold of r q (item_at d x at c p')) e (subst (λ x. ItemTold of r q (item_at d b at c x)) f t)
 
 pub item_by : (of : ℕ → ℕ) (d : ℕ) (bs : List ℕ) (at : ℕ) (c k : Command) (p q : ℕ) (r : Result ℕ ReadFault) → c ≡ k → ItemTold of r q (item_at d bs at k p) → ItemTold of r q (item_at d bs at c p)
 item_by of d bs at c k p q r is t = subst (λ x. ItemTold of r q (item_at d bs at x p)) (sym is) t
 
-pub told-there : (of : ℕ → ℕ) (d : ℕ) (b b' : List ℕ) (at p p' q : ℕ) (r : Result Ran ReadFault) → b ≡ b' → p ≡ p' → RunTold of r q (run_at d b at p) → RunTold of r q (run_at d b' at p')
-told-there of d b b' at p p' q r e f t = subst (λ x. RunTold of r q (run_at d x at p')) e (subst (λ x. RunTold of r q (run_at d b at x)) f t)
+pub told_there : (of : ℕ → ℕ) (d : ℕ) (b b' : List ℕ) (at p p' q : ℕ) (r : Result Ran ReadFault) → b ≡ b' → p ≡ p' → RunTold of r q (run_at d b at p) → RunTold of r q (run_at d b' at p')
+told_there of d b b' at p p' q r e f t = subst (λ x. RunTold of r q (run_at d x at p')) e (subst (λ x. RunTold of r q (run_at d b at x)) f t)

@@ -13,7 +13,7 @@ pub record BodyRead (bs : List ℕ) (r : Routine) : Type 0 where
   pub command_is : answer Top bs r.at ≡ Ok (Some (r.at, command.Routine r.code))
   pub run_is : run_at 9 bs r.at (after Top bs r.at) ≡ Ok ended
   pub body_is : ended.run ≡ r.body
-  pub last-is : ended.last ≡ command.EndRoutine
+  pub last_is : ended.last ≡ command.EndRoutine
 
 -- a task's command and its blocks are read where its offset says
 pub record TaskRead (bs : List ℕ) (t : Task) : Type 0 where

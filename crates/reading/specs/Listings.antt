@@ -40,8 +40,8 @@ onward bs rule (Err f) = Err f
 abbrev pub admit : {X : Type 0} → ℕ → ℕ → List Head → Result X ReadFault → Result X ReadFault
 admit c at seen more = cond (used c seen) (Err (CodeUsed at)) (cond (nat_le 32 (length seen)) (Err (TooMany at)) more)
 
-abbrev pub more-routines : ℕ → ℕ → Run → List Routine × ℕ → Result (List Routine × ℕ) ReadFault
-more-routines c at r rest = Ok (record { code = c; at = at; body = r } ∷ rest.0, rest.1)
+abbrev pub more_routines : ℕ → ℕ → Run → List Routine × ℕ → Result (List Routine × ℕ) ReadFault
+more_routines c at r rest = Ok (record { code = c; at = at; body = r } ∷ rest.0, rest.1)
 
 -- a routine's body ends with 28
 abbrev pub closed : {X : Type 0} → (Run → ℕ → Result X ReadFault) → Ended → Result X ReadFault
@@ -50,7 +50,7 @@ closed rule e = by_last (Err (NotAllowed e.at)) (Err (NotAllowed e.at)) (Err (No
 abbrev pub routine_turn : List ℕ → List Head → (List Head → ℕ → Result (List Routine × ℕ) ReadFault) → ℕ → ℕ → Result (Option (ℕ × Command)) ReadFault → Result (List Routine × ℕ) ReadFault
 routine_turn bs seen rest place next (Ok None) = Ok ([], place)
 routine_turn bs seen rest place next (Ok (Some c)) =
-    by_command (λ n. admit n c.0 seen (then (closed (λ r q. then (more-routines n c.0 r) (rest (seen ++ head n c.0 ∷ []) q))) (run_at 9 bs c.0 next))) (λ _ _ _. Ok ([], place)) (λ _. Ok ([], place)) (λ _ _. Ok ([], place)) (Ok ([], place)) (Ok ([], place)) c.1
+    by_command (λ n. admit n c.0 seen (then (closed (λ r q. then (more_routines n c.0 r) (rest (seen ++ head n c.0 ∷ []) q))) (run_at 9 bs c.0 next))) (λ _ _ _. Ok ([], place)) (λ _. Ok ([], place)) (λ _ _. Ok ([], place)) (Ok ([], place)) (Ok ([], place)) c.1
 routine_turn bs seen rest place next (Err f) = Err f
 
 -- the routines from a place on, and the place after them
@@ -58,13 +58,13 @@ unfoldable pub routines_from : List ℕ → ℕ → List Head → ℕ → Result
 routines_from bs zero seen place = Err (Open (length bs))
 routines_from bs (suc n) seen place = routine_turn bs seen (routines_from bs n) place (after Top bs place) (answer Top bs place)
 
-abbrev pub more-blocks : ℕ → ℕ → ℕ → ℕ → Blocks × ℕ → Result (Blocks × ℕ) ReadFault
-more-blocks at c t q rest = Ok (block at c t q rest.0, rest.1)
+abbrev pub more_blocks : ℕ → ℕ → ℕ → ℕ → Blocks × ℕ → Result (Blocks × ℕ) ReadFault
+more_blocks at c t q rest = Ok (block at c t q rest.0, rest.1)
 
 -- after a block: a point and the next blocks, or the end of the task
 abbrev pub after_block : ℕ → ℕ → (ℕ → Result (Blocks × ℕ) ReadFault) → ℕ → ℕ → Command → Result (Blocks × ℕ) ReadFault
 after_block was c rest place at =
-    by_command (λ _. Err (NotAllowed at)) (λ _ _ _. Err (NotAllowed at)) (λ _. Err (NotAllowed at)) (λ t q. then (more-blocks was c t q) (rest place)) (Ok (final was c, place)) (Err (NotAllowed at))
+    by_command (λ _. Err (NotAllowed at)) (λ _ _ _. Err (NotAllowed at)) (λ _. Err (NotAllowed at)) (λ t q. then (more_blocks was c t q) (rest place)) (Ok (final was c, place)) (Err (NotAllowed at))
 
 -- a block, of which there are at most 64, and what comes after it
 abbrev pub a_block : List ℕ → ℕ → (ℕ → Result (Blocks × ℕ) ReadFault) → ℕ → ℕ → Command → Result (Blocks × ℕ) ReadFault
@@ -76,13 +76,13 @@ unfoldable pub blocks_from : List ℕ → ℕ → ℕ → ℕ → Result (Blocks
 blocks_from bs zero count place = Err (Open (length bs))
 blocks_from bs (suc n) count place = onward bs (a_block bs count (blocks_from bs n (count + 1)) (after BlockDue bs place)) (answer BlockDue bs place)
 
-abbrev pub more-tasks : ℕ → ℕ → ℕ → ℕ → Blocks → List Task × ℕ → Result (List Task × ℕ) ReadFault
-more-tasks c at p d b rest = Ok (record { code = c; at = at; period = p; deadline = d; blocks = b } ∷ rest.0, rest.1)
+abbrev pub more_tasks : ℕ → ℕ → ℕ → ℕ → Blocks → List Task × ℕ → Result (List Task × ℕ) ReadFault
+more_tasks c at p d b rest = Ok (record { code = c; at = at; period = p; deadline = d; blocks = b } ∷ rest.0, rest.1)
 
 abbrev pub task_turn : List ℕ → List Head → (List Head → ℕ → Result (List Task × ℕ) ReadFault) → ℕ → ℕ → Result (Option (ℕ × Command)) ReadFault → Result (List Task × ℕ) ReadFault
 task_turn bs seen rest place next (Ok None) = Ok ([], place)
 task_turn bs seen rest place next (Ok (Some c)) =
-    by_command (λ _. Err (NotAllowed c.0)) (λ n p d. admit n c.0 seen (then (λ (b : Blocks × ℕ). then (more-tasks n c.0 p d b.0) (rest (seen ++ head n c.0 ∷ []) b.1)) (blocks_from bs (suc (length bs)) 0 next))) (λ _. Err (NotAllowed c.0)) (λ _ _. Err (NotAllowed c.0)) (Err (NotAllowed c.0)) (Err (NotAllowed c.0)) c.1
+    by_command (λ _. Err (NotAllowed c.0)) (λ n p d. admit n c.0 seen (then (λ (b : Blocks × ℕ). then (more_tasks n c.0 p d b.0) (rest (seen ++ head n c.0 ∷ []) b.1)) (blocks_from bs (suc (length bs)) 0 next))) (λ _. Err (NotAllowed c.0)) (λ _ _. Err (NotAllowed c.0)) (Err (NotAllowed c.0)) (Err (NotAllowed c.0)) c.1
 task_turn bs seen rest place next (Err f) = Err f
 
 -- the tasks from a place on, and the place after them
@@ -91,11 +91,11 @@ tasks_from bs zero seen place = Err (Open (length bs))
 tasks_from bs (suc n) seen place = task_turn bs seen (tasks_from bs n) place (after Tasks bs place) (answer Tasks bs place)
 
 -- the listing that bytes write, or the first fault in them
-abbrev pub tasks-then : List ℕ → List Routine × ℕ → Result Listing ReadFault
-tasks-then bs rs = then (λ (ts : List Task × ℕ). Ok (record { routines = rs.0; tasks = ts.0 })) (tasks_from bs (suc (length bs)) [] rs.1)
+abbrev pub tasks_then : List ℕ → List Routine × ℕ → Result Listing ReadFault
+tasks_then bs rs = then (λ (ts : List Task × ℕ). Ok (record { routines = rs.0; tasks = ts.0 })) (tasks_from bs (suc (length bs)) [] rs.1)
 
 unfoldable pub listing : List ℕ → Result Listing ReadFault
-listing bs = cond (nat_lt 32768 (length bs)) (Err TooLong) (then (tasks-then bs) (routines_from bs (suc (length bs)) [] 0))
+listing bs = cond (nat_lt 32768 (length bs)) (Err TooLong) (then (tasks_then bs) (routines_from bs (suc (length bs)) [] 0))
 
 -- the codes and offsets that a reading tells
 abbrev pub routine_head : Routine → Head

@@ -52,8 +52,8 @@ by_last o e p t x Sheet = x
 abbrev pub ends : Command → Bool
 ends = by_last true true true true false
 
-abbrev pub more-arms : Run → Armed → Result Armed ReadFault
-more-arms r q = Ok (record { arms = more r q.arms; end = q.end })
+abbrev pub more_arms : Run → Armed → Result Armed ReadFault
+more_arms r q = Ok (record { arms = more r q.arms; end = q.end })
 
 -- the arms of an either: runs parted by 24, the last one ended by 25
 unfoldable pub arms_by : (ℕ → Result Ended ReadFault) → List ℕ → ℕ → ℕ → Result Armed ReadFault
@@ -61,7 +61,7 @@ arms_by run bs zero place = Err (Open (length bs))
 arms_by run bs (suc n) place =
     then
     (λ (e : Ended).
-    by_last (then (more-arms e.run) (arms_by run bs n e.place)) (Ok (record { arms = one e.run; end = e.place })) (Err (NotAllowed e.at)) (Err (NotAllowed e.at)) (Err (NotAllowed e.at)) e.last)
+    by_last (then (more_arms e.run) (arms_by run bs n e.place)) (Ok (record { arms = one e.run; end = e.place })) (Err (NotAllowed e.at)) (Err (NotAllowed e.at)) (Err (NotAllowed e.at)) e.last)
     (run place)
 
 abbrev pub an_either : Armed → Result Parsed ReadFault

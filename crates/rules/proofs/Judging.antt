@@ -12,16 +12,16 @@ use Rattle.rules.specs.Peaks.{better, peak}
 use Rattle.rules.specs.Slacks.{slack_at}
 use Rattle.rules.specs.Tables.{Asked, deadline_at}
 use Rattle.rules.specs.Walks.{task_of, Next, carried, Holds}
-use Rattle.rules.specs.Demands.{deadline-small, deadline-first}
-use Rattle.rules.specs.PeaksLemmas.{lt_lt_z, le_lt_z, peak-most, peak-stays, peak-rises}
+use Rattle.rules.specs.Demands.{deadline_small, deadline_first}
+use Rattle.rules.specs.PeaksLemmas.{lt_lt_z, le_lt_z, peak_most, peak_stays, peak_rises}
 use Rattle.rules.proofs.Steps.{carried_demand, carried_small, demand_carried, replaces}
 
 same_z : (a b : ℤ) → a ≤ℤ b → b ≤ℤ a → a ≡ b
 same_z a b h k = omega (arith, ints)
 
-cond-inside : {X Y : Type 0} (f : X → Y) (b : Bool) (x y : X) → cond b (f x) (f y) ≡ f (cond b x y)
-cond-inside f true x y = refl
-cond-inside f false x y = refl
+cond_inside : {X Y : Type 0} (f : X → Y) (b : Bool) (x y : X) → cond b (f x) (f y) ≡ f (cond b x y)
+cond_inside f true x y = refl
+cond_inside f false x y = refl
 
 -- the walk has met the multiples up to `met`: the heap holds the next ones, and the answer is the best of the moments 1 to `met`
 pub record Walked (ts : List Timing) (p : ℕ) (xs : List Multiple) (sum : ℕ) (tolerance : ℤ) (moment met : ℕ) : Type 0 where
@@ -42,16 +42,16 @@ module _ (ts : List Timing) (p : ℕ) where
   unfolding slack_at
   slack_over met t xs sum a e h = let d = demand_carried ts p met t xs h a in omega (arith, ints)
 
-  pub sum-small : (xs : List Multiple) (sum : ℕ) (tolerance : ℤ) (moment met : ℕ) → Asked ts p → Walked ts p xs sum tolerance moment met → sum ≤ 406400000000000
-  sum-small xs sum tolerance moment met q w =
-      omega (arith, carried_small ts p met xs (omega (arith, q.few, q.last)) (omega (arith, w.early, deadline-small ts p)) w.holds, w.carries)
+  pub sum_small : (xs : List Multiple) (sum : ℕ) (tolerance : ℤ) (moment met : ℕ) → Asked ts p → Walked ts p xs sum tolerance moment met → sum ≤ 406400000000000
+  sum_small xs sum tolerance moment met q w =
+      omega (arith, carried_small ts p met xs (omega (arith, q.few, q.last)) (omega (arith, w.early, deadline_small ts p)) w.holds, w.carries)
 
   pub walk_starts : (xs : List Multiple) (sum : ℕ) (tolerance : ℤ) → Holds ts p 0 xs → sum ≡ sum_by (carried ts) xs → tolerance ≡ (pos 1 -ℤ pos sum) → Walked ts p xs sum tolerance 1 0
   unfolding peak
   walk_starts xs sum tolerance a e h =
       let under = slack_under 0 1 xs sum a e (omega arith) in
       let over = slack_over 0 1 xs sum a e (All-weaker (Next ts p 0) (λ x. 1 ≤ x.at) (λ x n. n.some) xs a.each) in
-      record { holds = a; carries = e; early = omega (arith, deadline-first ts p); first = refl; most = h ∙ same_z _ _ over under }
+      record { holds = a; carries = e; early = omega (arith, deadline_first ts p); first = refl; most = h ∙ same_z _ _ over under }
 
   -- between the multiples the slack rises, and at the last moment of the stretch it is the moment less what is carried
   rises : (met m : ℕ) (xs : List Multiple) (sum : ℕ) → Holds ts p met xs → sum ≡ sum_by (carried ts) xs → AllByRecursion (λ x. m ≤ x.at) xs → (t : ℕ) → met < t → t < m → slack_at ts p t <ℤ slack_at ts p (suc t)
@@ -82,14 +82,14 @@ module _ (ts : List Timing) (p : ℕ) where
           (λ (further : met < m).
           let there = slack_there met m xs sum w.holds w.carries least further in
           let test : lt_z tolerance (pos m -ℤ pos sum) ≡ lt_z (f b) (f m) = ap₂ lt_z w.most there in
-          let moves : peak f m ≡ better f b m = peak-rises f met m further (rises met m xs sum w.holds w.carries least) in
+          let moves : peak f m ≡ better f b m = peak_rises f met m further (rises met m xs sum w.holds w.carries least) in
           let new : moment' ≡ better f b m = later ∙ ap (λ t. cond t m moment) test ∙ ap (λ k. cond (lt_z (f b) (f m)) m k) w.first in
-          let value : tolerance' ≡ f (better f b m) = more ∙ ap (λ t. cond t (pos m -ℤ pos sum) tolerance) test ∙ ap₂ (λ u v. cond (lt_z (f b) (f m)) u v) there w.most ∙ cond-inside f (lt_z (f b) (f m)) m b in
+          let value : tolerance' ≡ f (better f b m) = more ∙ ap (λ t. cond t (pos m -ℤ pos sum) tolerance) test ∙ ap₂ (λ u v. cond (lt_z (f b) (f m)) u v) there w.most ∙ cond_inside f (lt_z (f b) (f m)) m b in
           (new ∙ sym moves, value ∙ ap f (sym moves)))
           (λ (same : m ≤ met).
           let is : met ≡ m = omega arith in
           let over = slack_over met m xs sum w.holds w.carries least in
-          let no : (pos m -ℤ pos sum) ≤ℤ tolerance = let top = peak-most f met m some same in let t = w.most in omega (arith, ints) in
+          let no : (pos m -ℤ pos sum) ≤ℤ tolerance = let top = peak_most f met m some same in let t = w.most in omega (arith, ints) in
           let test = le_lt_z tolerance (pos m -ℤ pos sum) no in
           (later ∙ cond-false _ m moment test ∙ w.first ∙ ap (peak f) is, more ∙ cond-false _ (pos m -ℤ pos sum) tolerance test ∙ w.most ∙ ap (λ k. f (peak f k)) is))
           (cases_lt met m)
@@ -101,7 +101,7 @@ module _ (ts : List Timing) (p : ℕ) where
       let d = deadline_at ts p in
       let there = slack_there met d xs sum w.holds w.carries least w.early in
       let more : f (peak f met) <ℤ f d = subst (λ v. f (peak f met) <ℤ v) there (subst (λ v. v <ℤ (pos d -ℤ pos sum)) w.most h) in
-      let moves = peak-rises f met d w.early (rises met d xs sum w.holds w.carries least) ∙ cond-true _ d (peak f met) (lt_lt_z (f (peak f met)) (f d) more) in
+      let moves = peak_rises f met d w.early (rises met d xs sum w.holds w.carries least) ∙ cond-true _ d (peak f met) (lt_lt_z (f (peak f met)) (f d) more) in
       (sym moves, there ∙ ap f (sym moves))
 
   -- not even the deadline could have more
@@ -110,5 +110,5 @@ module _ (ts : List Timing) (p : ℕ) where
       let f = slack_at ts p in
       let d = deadline_at ts p in
       let early = w.early in
-      let stays = peak-stays f met d (omega arith) (λ t l k. let under = slack_under met t xs sum w.holds w.carries l in let most = w.most in omega (arith, ints)) in
+      let stays = peak_stays f met d (omega arith) (λ t l k. let under = slack_under met t xs sum w.holds w.carries l in let most = w.most in omega (arith, ints)) in
       (w.first ∙ sym stays, w.most ∙ ap f (sym stays))

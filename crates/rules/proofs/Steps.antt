@@ -15,7 +15,7 @@ use Rattle.rules.specs.Multiples.{sooner}
 use Rattle.rules.specs.Slacks.{load, demand}
 use Rattle.rules.specs.Tables.{no_timing}
 use Rattle.rules.specs.Walks.{task_of, Next, carried, Holds}
-use Rattle.rules.specs.Demands.{demand-small}
+use Rattle.rules.specs.Demands.{demand_small}
 
 sums_le : {X : Type 0} (f g : X → ℕ) (xs : List X) → AllByRecursion (λ x. f x ≤ g x) xs → sum_by f xs ≤ sum_by g xs
 sums_le f g [] h = le_refl _
@@ -67,10 +67,10 @@ module _ (ts : List Timing) where
       both (y ∷ ys) h a = (asked_carried n met t y h.0 a.0, both ys h.1 a.1)
 
   pub carried_small : (n met : ℕ) (xs : List Multiple) → n ≤ 32 → met < 1000000 → Holds ts n met xs → sum_by (carried ts) xs ≤ 406400000000000
-  carried_small n met xs few early a = omega (arith, carried_demand n met (suc met) xs (omega arith) a, demand-small (suc met) (take n ts) (omega arith), length-take n ts)
+  carried_small n met xs few early a = omega (arith, carried_demand n met (suc met) xs (omega arith) a, demand_small (suc met) (take n ts) (omega arith), length-take n ts)
 
-  next-first : (n : ℕ) (x : Multiple) → x.task ≡ n → x.at ≡ (task_of ts x).period → Next ts (n + 1) 0 x
-  next-first n x e h =
+  next_first : (n : ℕ) (x : Multiple) → x.task ≡ n → x.at ≡ (task_of ts x).period → Next ts (n + 1) 0 x
+  next_first n x e h =
       let l = long x in
       let one = ap (λ k. k / (task_of ts x).period * (task_of ts x).period) h ∙ ap (λ k. k * (task_of ts x).period) (div_self l) ∙ one-mul (task_of ts x).period ∙ sym h in
       record { there = omega arith; some = omega arith; multiple = one; after = omega arith; next = omega arith }
@@ -86,7 +86,7 @@ module _ (ts : List Timing) where
   pub puts : (n : ℕ) (x : Multiple) (xs ys : List Multiple) → n < length ts → x.task ≡ n → x.at ≡ (task_of ts x).period → IsPermutation (x ∷ xs) ys → Holds ts n 0 xs → Holds ts (n + 1) 0 ys × (sum_by (carried ts) ys ≡ sum_by (carried ts) xs + (task_of ts x).cost)
   puts n x xs ys l e h moved a = (
     record {
-      each = all_shuffled (Next ts (n + 1) 0) (x ∷ xs) ys moved (next-first n x e h, All-weaker (Next ts n 0) (Next ts (n + 1) 0) (next_further n) xs a.each);
+      each = all_shuffled (Next ts (n + 1) 0) (x ∷ xs) ys moved (next_first n x e h, All-weaker (Next ts n 0) (Next ts (n + 1) 0) (next_further n) xs a.each);
       all = λ t.
           let g : Multiple → ℕ = λ y. load t (task_of ts y) in
           let at = ap (λ k. load t (get_or ts k no_timing)) e in
@@ -102,13 +102,13 @@ module _ (ts : List Timing) where
     same_task : task_of ts y ≡ task_of ts x
     same_task = ap (λ k. get_or ts k no_timing) e
 
-    count-more : y.at / (task_of ts y).period ≡ x.at / (task_of ts x).period + 1
-    count-more = ap (λ (z : Timing). y.at / z.period) same_task ∙ ap (λ k. k / (task_of ts x).period) h ∙ add-div_right x.at (long x)
+    count_more : y.at / (task_of ts y).period ≡ x.at / (task_of ts x).period + 1
+    count_more = ap (λ (z : Timing). y.at / z.period) same_task ∙ ap (λ k. k / (task_of ts x).period) h ∙ add-div_right x.at (long x)
 
     carried_more : carried ts y ≡ carried ts x + (task_of ts x).cost
     unfolding carried
     carried_more =
-        ap (λ (z : Timing). z.cost * (y.at / (task_of ts y).period)) same_task ∙ ap (λ k. (task_of ts x).cost * k) count-more ∙ mul-add (task_of ts x).cost (x.at / (task_of ts x).period) 1 ∙ ap (λ k. (task_of ts x).cost * (x.at / (task_of ts x).period) + k) (mul-one (task_of ts x).cost)
+        ap (λ (z : Timing). z.cost * (y.at / (task_of ts y).period)) same_task ∙ ap (λ k. (task_of ts x).cost * k) count_more ∙ mul-add (task_of ts x).cost (x.at / (task_of ts x).period) 1 ∙ ap (λ k. (task_of ts x).cost * (x.at / (task_of ts x).period) + k) (mul-one (task_of ts x).cost)
 
     next_more : (n met : ℕ) → Next ts n met x → Next ts n x.at y
     next_more n met a =
@@ -118,7 +118,7 @@ module _ (ts : List Timing) where
         record {
           there = omega (arith, a.there);
           some = omega (arith, a.some);
-          multiple = ap (λ j. j * (task_of ts y).period) count-more ∙ ap (λ j. (k + 1) * j) same ∙ add-mul k 1 p ∙ omega (arith, a.multiple, one-mul p);
+          multiple = ap (λ j. j * (task_of ts y).period) count_more ∙ ap (λ j. (k + 1) * j) same ∙ add-mul k 1 p ∙ omega (arith, a.multiple, one-mul p);
           after = omega arith;
           next = omega arith;
         }

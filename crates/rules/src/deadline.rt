@@ -3,7 +3,7 @@ ghost use Rattle.std.proofs.Common.{ap, ◌∙◌, subst, rules};
 ghost use Rattle.rules.specs.Slacks.{slack_at};
 ghost use Rattle.rules.specs.Tables.{deadline_at};
 ghost use Rattle.rules.specs.Tolerances.{deadline_tolerance};
-ghost use Rattle.rules.specs.Demands.{deadline_agrees, slack_agrees, deadline-kept, slack_falls, deadline-small, slack_low, slack_high};
+ghost use Rattle.rules.specs.Demands.{deadline_agrees, slack_agrees, deadline_kept, slack_falls, deadline_small, slack_low, slack_high};
 
 use crate::answer::Answer;
 use crate::rule::Rule;
@@ -27,9 +27,9 @@ impl Rule for Deadline {
         let by = deadline_agrees ts us p a.first e in
         (λ t. slack_agrees ts us p t e, slack_agrees ts us p (deadline_at ts p) e ∙ ap (slack_at us p) by, by) };
 
-    ghost monotone = { λ s ts us p a b h. subst (λ t. slack_at us p t ≤ℤ slack_at ts p (deadline_at ts p)) (deadline-kept ts us p a h) (slack_falls ts us p (deadline_at ts p) h) };
+    ghost monotone = { λ s ts us p a b h. subst (λ t. slack_at us p t ≤ℤ slack_at ts p (deadline_at ts p)) (deadline_kept ts us p a h) (slack_falls ts us p (deadline_at ts p) h) };
 
-    ghost bounded = { λ s ts p a. (slack_low ts p (deadline_at ts p) a (deadline-small ts p), slack_high ts p (deadline_at ts p) (deadline-small ts p)) };
+    ghost bounded = { λ s ts p a. (slack_low ts p (deadline_at ts p) a (deadline_small ts p), slack_high ts p (deadline_at ts p) (deadline_small ts p)) };
 
     fn ask(&self, tasks: &[Timing], place: usize) -> Answer {
         let by = tasks[place - 1].deadline();

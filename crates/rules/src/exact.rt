@@ -8,8 +8,8 @@ ghost use Rattle.rules.specs.Tables.{Asked, deadline_at};
 ghost use Rattle.rules.specs.Tolerances.{exact_moment, exact_tolerance, FirstGreatest};
 ghost use Rattle.rules.specs.Walks.{Holds, carried};
 ghost use Rattle.rules.specs.Peaks.{peak};
-ghost use Rattle.rules.specs.Demands.{deadline_agrees, slack_agrees, deadline-kept, deadline-first, slack_falls, deadline-small, slack_low, slack_high};
-ghost use Rattle.rules.specs.PeaksLemmas.{peak-same, peak-from, peak-within, peak-most};
+ghost use Rattle.rules.specs.Demands.{deadline_agrees, slack_agrees, deadline_kept, deadline_first, slack_falls, deadline_small, slack_low, slack_high};
+ghost use Rattle.rules.specs.PeaksLemmas.{peak_same, peak_from, peak_within, peak_most};
 
 use crate::answer::Answer;
 use crate::multiple::Multiple;
@@ -33,23 +33,23 @@ impl Rule for Exact {
 
     ghost prefix = { λ s ts us p a b e.
         let by = deadline_agrees ts us p a.first e in
-        let same = peak-same (slack_at ts p) (slack_at us p) (λ t. slack_agrees ts us p t e) (deadline_at ts p) ∙ ap (peak (slack_at us p)) by in
+        let same = peak_same (slack_at ts p) (slack_at us p) (λ t. slack_agrees ts us p t e) (deadline_at ts p) ∙ ap (peak (slack_at us p)) by in
         (λ t. slack_agrees ts us p t e, slack_agrees ts us p (peak (slack_at ts p) (deadline_at ts p)) e ∙ ap (slack_at us p) same, same) };
 
     ghost monotone = { λ s ts us p a b h.
         let d = deadline_at us p in
         let m = peak (slack_at us p) d in
-        let by = deadline-kept ts us p a h in
+        let by = deadline_kept ts us p a h in
         let less = slack_falls ts us p m h in
-        let within = peak-within (slack_at us p) d (deadline-first us p) in
-        let more = peak-most (slack_at ts p) (deadline_at ts p) m (peak-from (slack_at us p) d) (omega arith) in
+        let within = peak_within (slack_at us p) d (deadline_first us p) in
+        let more = peak_most (slack_at ts p) (deadline_at ts p) m (peak_from (slack_at us p) d) (omega arith) in
         omega (arith, ints) };
 
     ghost bounded = { λ s ts p a.
         let d = deadline_at ts p in
         let m = peak (slack_at ts p) d in
-        let small = deadline-small ts p in
-        let within = peak-within (slack_at ts p) d (deadline-first ts p) in
+        let small = deadline_small ts p in
+        let within = peak_within (slack_at ts p) d (deadline_first ts p) in
         (slack_low ts p m a (omega arith), slack_high ts p m (omega arith)) };
 
     fn ask(&self, tasks: &[Timing], place: usize) -> Answer

@@ -1,5 +1,5 @@
 ghost use Rattle.std.proofs.Common.{rules};
-ghost use Rattle.rules.specs.Multiples.{sooner, sooner-asym, sooner-chain};
+ghost use Rattle.rules.specs.Multiples.{sooner, sooner_asym, sooner_chain};
 
 use heap::TotalOrder;
 
@@ -15,7 +15,7 @@ impl TotalOrder for Multiple {
 
     ghost says = { Prim.search rules };
 
-    ghost asym = { sooner-asym };
+    ghost asym = { sooner_asym };
 
-    ghost chain = { sooner-chain };
+    ghost chain = { sooner_chain };
 }

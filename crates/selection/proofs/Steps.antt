@@ -12,7 +12,7 @@ use Rattle.tasks.specs.declared.points.Point.{Point}
 use Rattle.tasks.specs.Choices.{told}
 use Rattle.tasks.specs.Tasks.{cost_of_block, point_at, point_count}
 use Rattle.measures.specs.Joins.{Reached}
-use Rattle.measures.proofs.Reach.{reached-none, reached_weak, reached_measured}
+use Rattle.measures.proofs.Reach.{reached_none, reached_weak, reached_measured}
 use Rattle.selection.specs.declared.candidate.Candidate.{Candidate}
 use Rattle.selection.specs.Candidates.{sooner}
 use Rattle.selection.specs.Limits.{within}
@@ -43,22 +43,22 @@ module _ {V : Type 0} (before : V → V → Bool) (none : V) (join : V → Point
     (asym : (x y : V) → before x y ≡ true → before y x ≡ false)
     (chain : (x y z : V) → before x y ≡ false → before y z ≡ false → before x z ≡ false)
   where
-    offered-is : (k j : ℕ) → offered before none join t limit k j ≡ cond (reaches t limit k j) (proposed before none join t limit j) None
-    offered-is k zero = refl
-    offered-is k (suc i) = refl
+    offered_is : (k j : ℕ) → offered before none join t limit k j ≡ cond (reaches t limit k j) (proposed before none join t limit j) None
+    offered_is k zero = refl
+    offered_is k (suc i) = refl
 
-    pub value-some : (x : Option (Chosen V)) (v : V) → value_of x ≡ Some v → (s : Chosen V) × (x ≡ Some s) × (s.value ≡ v)
-    value-some None v e = absurd (let z : ◌≡◌ {A = ℕ} 0 1 = cc in omega arith)
-    value-some (Some s) v e = (s, refl, cc)
+    pub value_some : (x : Option (Chosen V)) (v : V) → value_of x ≡ Some v → (s : Chosen V) × (x ≡ Some s) × (s.value ≡ v)
+    value_some None v e = absurd (let z : ◌≡◌ {A = ℕ} 0 1 = cc in omega arith)
+    value_some (Some s) v e = (s, refl, cc)
 
     -- what a start proposes, from what the blocks before it have
     proposes : (k : ℕ) (v : V) → value_of (selected before none join t limit k) ≡ Some v → value_of (proposed before none join t limit k) ≡ Some (with_point join t k v)
     proposes zero v e = e
-    proposes (suc i) v e = let r = value-some (selected before none join t limit (suc i)) v e in ap (λ x. value_of (joined_at before none join (cost_of_block t) (point_at t) limit i x)) r.1 ∙ ap (λ u. Some (join u (point_at t i))) r.2
+    proposes (suc i) v e = let r = value_some (selected before none join t limit (suc i)) v e in ap (λ x. value_of (joined_at before none join (cost_of_block t) (point_at t) limit i x)) r.1 ∙ ap (λ u. Some (join u (point_at t i))) r.2
 
-    proposes-none : (k : ℕ) → value_of (selected before none join t limit k) ≡ None → proposed before none join t limit k ≡ None
-    proposes-none zero e = absurd (let z : ◌≡◌ {A = ℕ} 0 1 = cc in omega arith)
-    proposes-none (suc i) e = ap (joined_at before none join (cost_of_block t) (point_at t) limit i) (value_none (selected before none join t limit (suc i)) e)
+    proposes_none : (k : ℕ) → value_of (selected before none join t limit k) ≡ None → proposed before none join t limit k ≡ None
+    proposes_none zero e = absurd (let z : ◌≡◌ {A = ℕ} 0 1 = cc in omega arith)
+    proposes_none (suc i) e = ap (joined_at before none join (cost_of_block t) (point_at t) limit i) (value_none (selected before none join t limit (suc i)) e)
 
     -- ---- the candidate of block k is put among the others, or there is none
 
@@ -82,11 +82,11 @@ module _ {V : Type 0} (before : V → V → Bool) (none : V) (join : V → Point
             let starts : x.start ≡ j = at ∙ sym same in
             ap₂ (λ a b. record { value = a; start = b }) values starts
 
-    pub put-none : (k : ℕ) (old : List (Candidate V)) → value_of (selected before none join t limit k) ≡ None → Holds before none join t limit k k old → Holds before none join t limit (suc k) k old
-    put-none k old e h = record {
+    pub put_none : (k : ℕ) (old : List (Candidate V)) → value_of (selected before none join t limit k) ≡ None → Holds before none join t limit k k old → Holds before none join t limit (suc k) k old
+    put_none k old e h = record {
       sound = λ y g. let r = h.sound y g in (omega (arith, r.0), r.1);
       complete = λ j s l p. ⊎_elim
-          (λ same. let q : proposed before none join t limit j ≡ None = ap (proposed before none join t limit) same ∙ proposes-none k e in absurd (let z : ◌≡◌ {A = ℕ} 0 1 = cc in omega arith))
+          (λ same. let q : proposed before none join t limit j ≡ None = ap (proposed before none join t limit) same ∙ proposes_none k e in absurd (let z : ◌≡◌ {A = ℕ} 0 1 = cc in omega arith))
           (λ ne. h.complete j s (omega arith) p)
           (which j k);
     }
@@ -109,10 +109,10 @@ module _ {V : Type 0} (before : V → V → Bool) (none : V) (join : V → Point
     either false = refl
 
     unreached : (k j : ℕ) (new : List (Candidate V)) → new ≡ [] → Holds before none join t limit (suc k) (suc k) new → j < suc k → (x : Option (Chosen V)) → proposed before none join t limit j ≡ x → offered before none join t limit k j ≡ None
-    unreached k j new e h l None p = offered-is k j ∙ ap (λ x. cond (reaches t limit k j) x None) p ∙ either (reaches t limit k j)
+    unreached k j new e h l None p = offered_is k j ∙ ap (λ x. cond (reaches t limit k j) x None) p ∙ either (reaches t limit k j)
     unreached k j new e h l (Some s) p = ⊎_elim
         (λ g. absurd (has_none _ (subst (λ xs. Has xs (record { value = s.value; start = j })) e g)))
-        (λ f. offered-is k j ∙ ap (λ b. cond b (proposed before none join t limit j) None) (f k (omega arith)))
+        (λ f. offered_is k j ∙ ap (λ b. cond b (proposed before none join t limit j) None) (f k (omega arith)))
         (h.complete j s l p)
 
     not_sooner : (a b : V) (i j : ℕ) → sooner before (record { value = a; start = i }) (record { value = b; start = j }) ≡ false → (before a b ≡ false) × (i < j → before b a ≡ true)
@@ -127,7 +127,7 @@ module _ {V : Type 0} (before : V → V → Bool) (none : V) (join : V → Point
       -- what any start offers is in the heap, so it does not come before x
       rival : (i : ℕ) (u : Chosen V) → i < suc k → offered before none join t limit k i ≡ Some u → sooner before (record { value = u.value; start = i }) x ≡ false
       rival i u l e =
-          let r = law.some-cond (reaches t limit k i) (proposed before none join t limit i) u (sym (offered-is k i) ∙ e) in
+          let r = law.some_cond (reaches t limit k i) (proposed before none join t limit i) u (sym (offered_is k i) ∙ e) in
           ⊎_elim
           (λ g. all-has (λ y. sooner before y x ≡ false) new _ least g)
           (λ f. absurd (let no = f k (omega arith) in let yes = r.0 in let z : ◌≡◌ {A = ℕ} 0 1 = cc in omega arith))
@@ -136,23 +136,23 @@ module _ {V : Type 0} (before : V → V → Bool) (none : V) (join : V → Point
     pub picks : (k : ℕ) (new : List (Candidate V)) (top : Option (Candidate V)) → Holds before none join t limit (suc k) (suc k) new
         → MatchOption top (new ≡ []) (λ x. Has new x × (reaches t limit k x.start ≡ true) × Least (sooner before) x new)
         → Picked before none join t limit k top
-    picks k new None h first = law.selection-is before none join (cost_of_block t) (point_at t) limit asym chain k ∙ best.best_of-none before none join (cost_of_block t) (point_at t) limit asym chain (offered before none join t limit k) (suc k) (λ j l. unreached k j new first h l (proposed before none join t limit j) refl)
+    picks k new None h first = law.selection_is before none join (cost_of_block t) (point_at t) limit asym chain k ∙ best.best_of_none before none join (cost_of_block t) (point_at t) limit asym chain (offered before none join t limit k) (suc k) (λ j l. unreached k j new first h l (proposed before none join t limit j) refl)
     picks k new (Some x) h first =
         let at = h.sound x first.0 in
-        let p = value-some (proposed before none join t limit x.start) x.value at.1 in
+        let p = value_some (proposed before none join t limit x.start) x.value at.1 in
         let s = p.0 in
-        let is : offered before none join t limit k x.start ≡ Some s = offered-is k x.start ∙ ap₂ (λ b y. cond b y None) first.1 p.1 in
-        let best' = best.best_of-is before none join (cost_of_block t) (point_at t) limit asym chain (offered before none join t limit k) (suc k) x.start s at.0 is
+        let is : offered before none join t limit k x.start ≡ Some s = offered_is k x.start ∙ ap₂ (λ b y. cond b y None) first.1 p.1 in
+        let best' = best.best_of_is before none join (cost_of_block t) (point_at t) limit asym chain (offered before none join t limit k) (suc k) x.start s at.0 is
         (λ i u l e. ap (before u.value) p.2 ∙ (not_sooner u.value x.value i x.start (rival k new h x first.2 i u l e)).0)
         (λ i u l e. ap (λ v. before v u.value) p.2 ∙ (not_sooner u.value x.value i x.start (rival k new h x first.2 i u (omega (arith, at.0)) e)).1 l) in
-        (s, law.selection-is before none join (cost_of_block t) (point_at t) limit asym chain k ∙ best', p.2, at.0, is)
+        (s, law.selection_is before none join (cost_of_block t) (point_at t) limit asym chain k ∙ best', p.2, at.0, is)
 
     -- ---- the values that are joined are reached by few points
 
-    pub value-reached : (k : ℕ) (v : V) → k ≤ point_count t → value_of (selected before none join t limit k) ≡ Some v → Reached none join 62 v
-    value-reached zero v l e = let q : v ≡ none = cc in reached-none 62 v q
-    value-reached (suc i) v l e =
-        let r = value-some (selected before none join t limit (suc i)) v e in
+    pub value_reached : (k : ℕ) (v : V) → k ≤ point_count t → value_of (selected before none join t limit k) ≡ Some v → Reached none join 62 v
+    value_reached zero v l e = let q : v ≡ none = cc in reached_none 62 v q
+    value_reached (suc i) v l e =
+        let r = value_some (selected before none join t limit (suc i)) v e in
         let o = law.own before none join (cost_of_block t) (point_at t) limit asym chain i r.0 r.1 in
         reached_weak i 62 v (subst (Reached none join i) (sym o.value ∙ r.2) (reached_measured (point_at t) (told r.0.word) i)) (omega (arith, t.count))
 

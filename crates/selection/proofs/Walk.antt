@@ -16,9 +16,9 @@ abbrev pub mark : ℕ → ℕ
 mark zero = 0
 mark (suc i) = 2 ^ i
 
-pub mark-is : (j : ℕ) → 0 < j → mark j ≡ 2 ^ (j - 1)
-mark-is zero h = absurd (omega arith)
-mark-is (suc i) h = ap (λ x. 2 ^ x) (omega arith)
+pub mark_is : (j : ℕ) → 0 < j → mark j ≡ 2 ^ (j - 1)
+mark_is zero h = absurd (omega arith)
+mark_is (suc i) h = ap (λ x. 2 ^ x) (omega arith)
 
 -- the longest stretch of the first k blocks under a word
 abbrev pub longest_in : Task → ℕ → ℕ → ℕ
@@ -34,12 +34,12 @@ module _ {V : Type 0} (before : V → V → Bool) (none : V) (join : V → Point
     pub back : (k j : ℕ) (u : Chosen V) → j < suc k → offered before none join t limit k j ≡ Some u
         → (v : Chosen V) × (selected before none join t limit j ≡ Some v) × (u.word ≡ mark j + v.word) × (longest_in t (suc k) u.word ≡ max (stretch_from (cost_of_block t) (point_at t) k j) (longest_in t j v.word))
     back k zero u l e =
-        let r = law.some-cond (reaches t limit k 0) (selected before none join t limit 0) u e in
+        let r = law.some_cond (reaches t limit k 0) (selected before none join t limit 0) u e in
         let empty = word_none u r.1 in
         (u, r.1, omega arith, ap (λ w. greatest (stretches (cost_of_block t) (point_at t) (told w) k 0)) empty ∙ ap greatest (law.bare_stretches none join (cost_of_block t) (point_at t) k))
     back k (suc i) u l e =
-        let r = law.some-cond (reaches t limit k (suc i)) (proposed before none join t limit (suc i)) u e in
-        let q = law.some-joined before none join (cost_of_block t) (point_at t) limit i (selected before none join t limit (suc i)) u r.1 in
+        let r = law.some_cond (reaches t limit k (suc i)) (proposed before none join t limit (suc i)) u e in
+        let q = law.some_joined before none join (cost_of_block t) (point_at t) limit i (selected before none join t limit (suc i)) u r.1 in
         let v = q.0 in
         let word : u.word ≡ v.word + 2 ^ i = ap (λ x. x.word) q.2 in
         let small = (law.own before none join (cost_of_block t) (point_at t) limit asym chain i v q.1).small in
@@ -90,13 +90,13 @@ module _ {V : Type 0} (none : V) (join : V → Point → V) (ticks : V → ℕ) 
         by true v r = adds v (point k) r
         by false v r = omega arith
 
-    pub total-is : (k : ℕ) → k ≤ 63 → total cost point c k ≡ cost_before cost (suc k) + ticks (measured none join point c k)
-    total-is zero few = omega (arith, nothing)
-    total-is (suc k) few = omega (arith, total-is k (omega arith), measured_ticks k (omega arith))
+    pub total_is : (k : ℕ) → k ≤ 63 → total cost point c k ≡ cost_before cost (suc k) + ticks (measured none join point c k)
+    total_is zero few = omega (arith, nothing)
+    total_is (suc k) few = omega (arith, total_is k (omega arith), measured_ticks k (omega arith))
 
-    pub ticks-small : (k : ℕ) → k ≤ 63 → ticks (measured none join point c k) ≤ k * 1000000
-    ticks-small zero few = omega (arith, nothing)
-    ticks-small (suc k) few = omega (arith, ticks-small k (omega arith), measured_ticks k (omega arith), by (c k))
+    pub ticks_small : (k : ℕ) → k ≤ 63 → ticks (measured none join point c k) ≤ k * 1000000
+    ticks_small zero few = omega (arith, nothing)
+    ticks_small (suc k) few = omega (arith, ticks_small k (omega arith), measured_ticks k (omega arith), by (c k))
       where
         by : (b : Bool) → cond b (point k).ticks 0 ≤ 1000000
         by true = (point k).small.0

@@ -40,10 +40,10 @@ module _ {V : Type 0} (before : V → V → Bool) (none : V) (join : V → Point
 
     module _ (ticks : V → ℕ) (nothing : ticks none ≡ 0) (adds : (v : V) (p : Point) → Reached none join 62 v → ticks (join v p) ≡ ticks v + p.ticks) where
       pub costs : (s : Chosen V) → selection_of before none join t limit ≡ Some s → cost_before (cost_of_block t) (suc (point_count t)) + ticks s.value ≡ cost_of t (told s.word)
-      costs s e = omega (arith, walk.total-is none join ticks (cost_of_block t) (point_at t) (told s.word) nothing adds (point_count t) (omega (arith, t.count)), ap ticks (own s e).value)
+      costs s e = omega (arith, walk.total_is none join ticks (cost_of_block t) (point_at t) (told s.word) nothing adds (point_count t) (omega (arith, t.count)), ap ticks (own s e).value)
 
-      pub costs-small : (s : Chosen V) → selection_of before none join t limit ≡ Some s → ticks s.value ≤ 63000000
-      costs-small s e = omega (arith, walk.ticks-small none join ticks (cost_of_block t) (point_at t) (told s.word) nothing adds (point_count t) (omega (arith, t.count)), ap ticks (own s e).value, t.count)
+      pub costs_small : (s : Chosen V) → selection_of before none join t limit ≡ Some s → ticks s.value ≤ 63000000
+      costs_small s e = omega (arith, walk.ticks_small none join ticks (cost_of_block t) (point_at t) (told s.word) nothing adds (point_count t) (omega (arith, t.count)), ap ticks (own s e).value, t.count)
 
     module _ (keeps : (v w : V) (p : Point) → Reached none join 62 v → Reached none join 62 w → before w v ≡ false → before (join w p) (join v p) ≡ false) where
       pub best_within : (o : Option (Chosen V)) → selection_of before none join t limit ≡ o → BestWithin before none join t limit (told_of t o)

@@ -1,6 +1,6 @@
 ghost use Rattle.std.specs.Prelude.{◌≡◌, Some, refl, if◌then◌else◌};
 ghost use Rattle.std.specs.declared.cmp.Ordering.TheVariants.{Less, Equal, Greater};
-ghost use Rattle.selection.specs.Candidates.{sooner, sooner-asym, sooner-chain, sooner-compared};
+ghost use Rattle.selection.specs.Candidates.{sooner, sooner_asym, sooner_chain, sooner_compared};
 ghost use Rattle.std.specs.Cmp.Rules.{comparing};
 ghost use Rattle.std.proofs.Common.{◌∙◌, ap, rules};
 
@@ -20,7 +20,7 @@ impl<V: TotalOrder> Ord for Candidate<V> {
 
     ghost total = { Prim.search (comparing, rules) };
 
-    ghost matches_partial_cmp = { λ x y. sooner-compared V.TotalOrder.before V.PartialOrd.partial_cmp x y (V.TotalOrder.asym x.value y.value) (V.Ord.matches_partial_cmp x.value y.value ∙ ap Some (V.TotalOrder.says x.value y.value _ refl)) };
+    ghost matches_partial_cmp = { λ x y. sooner_compared V.TotalOrder.before V.PartialOrd.partial_cmp x y (V.TotalOrder.asym x.value y.value) (V.Ord.matches_partial_cmp x.value y.value ∙ ap Some (V.TotalOrder.says x.value y.value _ refl)) };
 
     ghost matches_eq = { Prim.search (comparing, rules) };
 
@@ -37,7 +37,7 @@ impl<V: TotalOrder> TotalOrder for Candidate<V> {
 
     ghost says = { Prim.search rules };
 
-    ghost asym = { sooner-asym V.TotalOrder.before V.TotalOrder.asym };
+    ghost asym = { sooner_asym V.TotalOrder.before V.TotalOrder.asym };
 
-    ghost chain = { sooner-chain V.TotalOrder.before V.TotalOrder.asym V.TotalOrder.chain };
+    ghost chain = { sooner_chain V.TotalOrder.before V.TotalOrder.asym V.TotalOrder.chain };
 }

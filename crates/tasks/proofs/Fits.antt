@@ -11,16 +11,16 @@ both true b h = (refl, h)
 both false true h = (h, refl)
 both false false h = (h, h)
 
-pub fits-set : (bs : List Block) (i : ℕ) (b : Block) → cost_fits b.cost ≡ true → costs_fit bs ≡ true → costs_fit (set bs i b) ≡ true
-fits-set [] i b f h = h
-fits-set (x ∷ bs) zero b f h = ap (λ t. t && costs_fit bs) f ∙ (both _ _ h).1
-fits-set (x ∷ bs) (suc i) b f h = ap (λ t. t && costs_fit (set bs i b)) (both _ _ h).0 ∙ fits-set bs i b f (both _ _ h).1
+pub fits_set : (bs : List Block) (i : ℕ) (b : Block) → cost_fits b.cost ≡ true → costs_fit bs ≡ true → costs_fit (set bs i b) ≡ true
+fits_set [] i b f h = h
+fits_set (x ∷ bs) zero b f h = ap (λ t. t && costs_fit bs) f ∙ (both _ _ h).1
+fits_set (x ∷ bs) (suc i) b f h = ap (λ t. t && costs_fit (set bs i b)) (both _ _ h).0 ∙ fits_set bs i b f (both _ _ h).1
 
 -- every block is in its range
-pub fits-at : (bs : List Block) (i : ℕ) (d : Block) → costs_fit bs ≡ true → i < length bs → (1 ≤ (get_or bs i d).cost) × ((get_or bs i d).cost ≤ 1000000)
-fits-at [] i d h l = absurd (omega arith)
-fits-at (x ∷ bs) zero d h l = let f = (both (cost_fits x.cost) (costs_fit bs) h).0 in (grind (arith, nat_tests), grind (arith, nat_tests))
-fits-at (x ∷ bs) (suc i) d h l = fits-at bs i d (both (cost_fits x.cost) (costs_fit bs) h).1 (omega arith)
+pub fits_at : (bs : List Block) (i : ℕ) (d : Block) → costs_fit bs ≡ true → i < length bs → (1 ≤ (get_or bs i d).cost) × ((get_or bs i d).cost ≤ 1000000)
+fits_at [] i d h l = absurd (omega arith)
+fits_at (x ∷ bs) zero d h l = let f = (both (cost_fits x.cost) (costs_fit bs) h).0 in (grind (arith, nat_tests), grind (arith, nat_tests))
+fits_at (x ∷ bs) (suc i) d h l = fits_at bs i d (both (cost_fits x.cost) (costs_fit bs) h).1 (omega arith)
 
-pub cost-fits : (t : Task) (i : ℕ) → i ≤ point_count t → (1 ≤ cost_of_block t i) × (cost_of_block t i ≤ 1000000)
-cost-fits t i h = fits-at (vec_items t.blocks.records) i (record { cost = 0 }) t.costs (omega (arith, t.blocks.records.ok.0, t.count))
+pub cost_fits_lem : (t : Task) (i : ℕ) → i ≤ point_count t → (1 ≤ cost_of_block t i) × (cost_of_block t i ≤ 1000000)
+cost_fits_lem t i h = fits_at (vec_items t.blocks.records) i (record { cost = 0 }) t.costs (omega (arith, t.blocks.records.ok.0, t.count))

@@ -13,9 +13,9 @@ returns-in_default g c =
     let long = length-take-le h.len h.slots.now c.requires.within in
     let first : x ≡ get_or (held h) 0 x = c.index-slots-0.is ∙ sym (get_or-take h.len h.slots.now 0 x (omega arith)) in
     record {
-      value = slots.top-is h.slots.now h.len x (omega arith) c.requires.within c.index-slots-0.is;
+      value = slots.top_is h.slots.now h.len x (omega arith) c.requires.within c.index-slots-0.is;
       cases = (
         (0, omega arith, λ d. get_or_default (held h) 0 d x (omega arith) ∙ sym first),
-        steps.first-least g.T.TotalOrder.before o.asym o.chain (held h) x first c.requires.heaped,
+        steps.first_least g.T.TotalOrder.before o.asym o.chain (held h) x first c.requires.heaped,
       );
     }

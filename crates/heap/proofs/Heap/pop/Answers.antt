@@ -27,12 +27,12 @@ returns g c =
     let kept = slots.sifted_held ys zs (m - 0) m (omega arith) within t.shuffled _ in
     record {
       good = record { within = search rules; heaped = subst (λ (l : List _). Heaped g.T.TotalOrder.before l) kept t.heaped };
-      value = slots.top-is xs n x (omega arith) c.requires.within first;
+      value = slots.top_is xs n x (omega arith) c.requires.within first;
       cases = omega arith;
       size = refl;
       room = search rules;
       held = (
-        steps.first-least g.T.TotalOrder.before o.asym o.chain (take n xs) x (first ∙ sym (get_or-take n xs 0 x (omega arith))) c.requires.heaped,
+        steps.first_least g.T.TotalOrder.before o.asym o.chain (take n xs) x (first ∙ sym (get_or-take n xs 0 x (omega arith))) c.requires.heaped,
         subst (λ (l : List _). IsPermutation (take n xs) (x ∷ l)) kept (slots.pop_held xs ys n m x one c.requires.within first swap zs (slots.sifted_shuffled ys zs (m - 0) m (omega arith) within t.shuffled)),
       );
       rest = slots.sifted_rest ys zs (m - 0) m (omega arith) within t.shuffled ∙ slots.pop_rest xs ys n m x one c.requires.within first swap;

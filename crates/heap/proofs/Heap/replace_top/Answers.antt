@@ -24,12 +24,12 @@ returns g c =
     let kept = slots.sifted_held ys zs (n - 0) n (omega arith) within t.shuffled _ in
     record {
       good = record { within = search rules; heaped = subst (λ (l : List _). Heaped g.T.TotalOrder.before l) kept t.heaped };
-      value = slots.top-is xs n y some c.requires.within first;
+      value = slots.top_is xs n y some c.requires.within first;
       cases = some;
       size = refl;
       room = search rules;
       held = (
-        steps.first-least g.T.TotalOrder.before o.asym o.chain (take n xs) y (first ∙ sym (get_or-take n xs 0 y some)) c.requires.heaped,
+        steps.first_least g.T.TotalOrder.before o.asym o.chain (take n xs) y (first ∙ sym (get_or-take n xs 0 y some)) c.requires.heaped,
         subst (λ (l : List _). IsPermutation (x ∷ take n xs) (y ∷ l)) kept (slots.replace_held xs n x y some c.requires.within first zs (slots.sifted_shuffled ys zs (n - 0) n (omega arith) within t.shuffled)),
       );
       rest = slots.sifted_rest ys zs (n - 0) n (omega arith) within t.shuffled ∙ drop-set-lt n xs 0 x some;

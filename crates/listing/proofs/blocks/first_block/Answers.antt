@@ -2,7 +2,7 @@ use Rattle.std.proofs.Common.{◌<◌, ◌≤◌, length, sym, ap, ◌∙◌, ar
 use Rattle.commands.specs.declared.table.Context.TheVariants.{BlockDue, AfterBlock}
 use Rattle.commands.specs.Commands.{answer, after}
 use Rattle.reading.specs.Steps.{block_of, point_of}
-use Rattle.listing.proofs.Marked.{walking, no_first, marked, last_one, step-on}
+use Rattle.listing.proofs.Marked.{walking, no_first, marked, last_one, step_on}
 use Rattle.listing.proofs.blocks.first_block.Goals as goal
 
 pub steps-init : goal.steps-init
@@ -27,7 +27,7 @@ steps-preserved c =
     let second : (c.next_block.new.reader.at < c.next_point.new.reader.at) × (c.next_point.new.reader.at ≤ length c.next_block.new.reader.bytes.now) = m.forth in (
       m.same ∙ n.same ∙ bs,
       λ b q e.
-          step-on _ _ _ _ (c.steps.invariant.1 b q e) _ (sym (n.told ∙ ap (λ x. block_of (answer BlockDue x c.steps.reader.at)) bs)) c.if-marks-head.false _ _ (sym (m.told ∙ (λ i. point_of (answer AfterBlock ((n.same ∙ bs) i) (on i)))))
+          step_on _ _ _ _ (c.steps.invariant.1 b q e) _ (sym (n.told ∙ ap (λ x. block_of (answer BlockDue x c.steps.reader.at)) bs)) c.if-marks-head.false _ _ (sym (m.told ∙ (λ i. point_of (answer AfterBlock ((n.same ∙ bs) i) (on i)))))
           (m.moved ∙ (λ i. after AfterBlock ((n.same ∙ bs) i) (on i))) (omega arith) (omega arith),
     )
 

@@ -3,7 +3,7 @@ use Rattle.std.proofs.lemmas.List.{length-map, get_or-map}
 use Rattle.reading.specs.declared.heads.Head.{Head}
 use Rattle.reading.specs.Heads.{head, held}
 use Rattle.listing.specs.Calls.{calls_at}
-use Rattle.listing.proofs.Tables.{none_filled, filled-all, unknown-found, fill_more}
+use Rattle.listing.proofs.Tables.{none_filled, filled_all, unknown_found, fill_more}
 use Rattle.listing.proofs.cost.call_table.Goals as goal
 
 pub loop-i-init : goal.loop-i-init
@@ -17,7 +17,7 @@ returns-in-Some c =
     let inside : c.loop-i.i < length (map at hs) = simp length-map here in
     let few : c.loop-i.i < 32 = omega (arith, c.len-count.ensures) in
     let same : calls_at c.args.bytes.now c.get.result.at ≡ get_or (map at hs) c.loop-i.i [] = ap at c.get.ensures ∙ sym (get_or-map at hs c.loop-i.i (head 0 0) [] here) in
-    unknown-found _ _ _ _ c.loop-i.invariant inside few _ same _ c.of-calls.ensures _ c.in-Some.is
+    unknown_found _ _ _ _ c.loop-i.invariant inside few _ same _ c.of-calls.ensures _ c.in-Some.is
 
 pub loop-i-preserved : goal.loop-i-preserved
 loop-i-preserved c =
@@ -30,4 +30,4 @@ loop-i-preserved c =
     fill_more _ _ _ _ c.loop-i.invariant inside few _ same _ c.of-calls.ensures c.in_default.is
 
 pub returns : goal.returns
-returns c = filled-all _ _ _ _ c.loop-i.invariant (simp length-map (omega (arith, c.len-count.ensures.is))) (omega (arith, c.len-count.ensures))
+returns c = filled_all _ _ _ _ c.loop-i.invariant (simp length-map (omega (arith, c.len-count.ensures.is))) (omega (arith, c.len-count.ensures))

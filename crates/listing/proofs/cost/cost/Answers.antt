@@ -1,7 +1,7 @@
 use Rattle.std.proofs.Common.{Ok, Err}
 use Rattle.std.proofs.lemmas.Result.{err_from_is_err_and}
 use Rattle.faults.specs.declared.fault.CostFault.TheVariants.{Unknown, Cycle, TooDear}
-use Rattle.listing.proofs.Costed.{outlined, read_fault, call-told, block-told, cycle_told, dear_told, all_told, both}
+use Rattle.listing.proofs.Costed.{outlined, read_fault, call_told, block_told, cycle_told, dear_told, all_told, both}
 use Rattle.listing.proofs.cost.cost.Goals as goal
 
 pub returns-in_err-outline : goal.returns-in_err-outline
@@ -11,12 +11,12 @@ returns-in_err-outline c =
 
 pub returns-in-Err : goal.returns-in-Err
 returns-in-Err c =
-    let b = both c.args.bytes.now c.in_ok-outline.outline (outlined c.args.bytes.now c.in_ok-outline.outline c.in_ok-outline.ensures.told) (Err (Unknown c.in-Err.head.at c.in-Err.head.code)) (call-told c.args.bytes.now c.in_ok-outline.outline (outlined c.args.bytes.now c.in_ok-outline.outline c.in_ok-outline.ensures.told) c.in-Err.head c.in-Err.ensures) in
+    let b = both c.args.bytes.now c.in_ok-outline.outline (outlined c.args.bytes.now c.in_ok-outline.outline c.in_ok-outline.ensures.told) (Err (Unknown c.in-Err.head.at c.in-Err.head.code)) (call_told c.args.bytes.now c.in_ok-outline.outline (outlined c.args.bytes.now c.in_ok-outline.outline c.in_ok-outline.ensures.told) c.in-Err.head c.in-Err.ensures) in
     record { told = b.0; cycles = b.1 }
 
 pub returns-in-Some : goal.returns-in-Some
 returns-in-Some c =
-    let b = both c.args.bytes.now c.in_ok-outline.outline (outlined c.args.bytes.now c.in_ok-outline.outline c.in_ok-outline.ensures.told) (Err (Unknown c.in-Some.block.at c.in-Some.block.code)) (block-told c.args.bytes.now c.in_ok-outline.outline (outlined c.args.bytes.now c.in_ok-outline.outline c.in_ok-outline.ensures.told) c.in-Ok.rows c.in-Ok.ensures c.unlisted-strange.result c.unlisted-strange.ensures (c.in-Some.field-0-0, c.in-Some.block) c.in-Some.ensures) in
+    let b = both c.args.bytes.now c.in_ok-outline.outline (outlined c.args.bytes.now c.in_ok-outline.outline c.in_ok-outline.ensures.told) (Err (Unknown c.in-Some.block.at c.in-Some.block.code)) (block_told c.args.bytes.now c.in_ok-outline.outline (outlined c.args.bytes.now c.in_ok-outline.outline c.in_ok-outline.ensures.told) c.in-Ok.rows c.in-Ok.ensures c.unlisted-strange.result c.unlisted-strange.ensures (c.in-Some.field-0-0, c.in-Some.block) c.in-Some.ensures) in
     record { told = b.0; cycles = b.1 }
 
 pub returns-in-Some-first_cycle : goal.returns-in-Some-first_cycle

@@ -2,11 +2,11 @@ use Rattle.std.proofs.Common.{ap, subst, arith}
 use Rattle.reading.specs.declared.heads.Head.{Head}
 use Rattle.reading.specs.Heads.{held}
 use Rattle.listing.specs.Cycles.{entry, through, closed, code_at, Tabled}
-use Rattle.listing.proofs.Closed.{start-closed, pass_closed}
+use Rattle.listing.proofs.Closed.{start_closed, pass_closed}
 use Rattle.listing.proofs.cycles.reached.Goals as goal
 
 pub loop-k-init : goal.loop-k-init
-loop-k-init c = start-closed _ _ c.requires
+loop-k-init c = start_closed _ _ c.requires
 
 pub loop-k-preserved : goal.loop-k-preserved
 loop-k-preserved c =

@@ -1,5 +1,5 @@
 use Rattle.std.proofs.lemmas.Result.{err_from_is_err_and}
-use Rattle.listing.proofs.Finished.{Costed, costed, cost_fault, free_told, tasks-read, tasks-priced, finish}
+use Rattle.listing.proofs.Finished.{Costed, costed, cost_fault, free_told, tasks_read, tasks_priced, finish}
 use Rattle.listing.proofs.load.load.Goals as goal
 
 pub returns-in_err-costs : goal.returns-in_err-costs
@@ -14,4 +14,4 @@ pub returns : goal.returns
 returns c =
     let x : Costed c.args.bytes.now c.in_ok-costs.costs = costed c.args.bytes.now c.in_ok-costs.costs c.in_ok-costs.ensures.told in
     finish c.args.bytes.now c.in_ok-costs.costs (costed c.args.bytes.now c.in_ok-costs.costs c.in_ok-costs.ensures.told) c.free_marks-free.result c.free_marks-free.ensures c.in_default.ensures c.load_tasks.result (λ i. (c.type_inv.bytes i).fits) c.in_ok-costs.ensures.cycles
-    (c.load_tasks.ensures x.it.tasks x.tasks_are (tasks-read c.args.bytes.now c.in_ok-costs.costs (costed c.args.bytes.now c.in_ok-costs.costs c.in_ok-costs.ensures.told)) (tasks-priced c.args.bytes.now c.in_ok-costs.costs (costed c.args.bytes.now c.in_ok-costs.costs c.in_ok-costs.ensures.told) c.free_marks-free.result c.free_marks-free.ensures c.in_default.ensures))
+    (c.load_tasks.ensures x.it.tasks x.tasks_are (tasks_read c.args.bytes.now c.in_ok-costs.costs (costed c.args.bytes.now c.in_ok-costs.costs c.in_ok-costs.ensures.told)) (tasks_priced c.args.bytes.now c.in_ok-costs.costs (costed c.args.bytes.now c.in_ok-costs.costs c.in_ok-costs.ensures.told) c.free_marks-free.result c.free_marks-free.ensures c.in_default.ensures))

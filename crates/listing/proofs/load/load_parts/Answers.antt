@@ -5,7 +5,7 @@ use Rattle.commands.specs.Commands.{answer, after}
 use Rattle.listing.specs.Loading.{Made}
 use Rattle.reading.specs.Runs.{cost_of_code}
 use Rattle.reading.specs.Steps.{block_of, point_of}
-use Rattle.listing.proofs.Built.{Building, building, no_block, last_block, one_more, ticks-fit}
+use Rattle.listing.proofs.Built.{Building, building, no_block, last_block, one_more, ticks_fit}
 use Rattle.listing.proofs.load.load_parts.Goals as goal
 
 pub steps-init : goal.steps-init
@@ -34,7 +34,7 @@ returns-in_default-new c b q e p =
     let on = n.moved ∙ ap (λ x. after BlockDue x c.steps.reader.at) bs in
     let is = sym (n.told ∙ ap (λ x. block_of (answer BlockDue x c.steps.reader.at)) bs) in
     let then = sym (m.told ∙ (λ i. point_of (answer AfterBlock ((n.same ∙ bs) i) (on i)))) in
-    let fits = le-leb _ _ (ticks-fit c.args.bytes.now _ _ _ then) in
+    let fits = le-leb _ _ (ticks_fit c.args.bytes.now _ _ _ then) in
     absurd (both_ways _ (sym c.in_default-new.ensures.test) fits)
 
 pub steps-preserved : goal.steps-preserved

@@ -6,17 +6,17 @@ use Rattle.tasks.specs.Ranges.{body_fits}
 use Rattle.tasks.specs.declared.blocks.Block.{Block}
 use Rattle.tasks.specs.declared.points.Point.{Point}
 use Rattle.listing.specs.declared.parts.Clock.{Clock}
-use Rattle.listing.proofs.Loaded.{blocks-here, clock_is, clock_fits_lem}
+use Rattle.listing.proofs.Loaded.{blocks_here, clock_is, clock_fits_lem}
 use Rattle.listing.proofs.load.load_task.Goals as goal
 
 pub returns-in_err-blocks : goal.returns-in_err-blocks
 returns-in_err-blocks c t e r p =
     let f = err_from_is_err_and c.from_residual.result c.from_residual.ensures.1 in
-    rw (f.1, f.2) (c.in_err-blocks.ensures t.blocks r.end (blocks-here c.args.bytes.now t c.args.at e r c.next_task.new.reader.at c.in-Some.ensures.moved) p)
+    rw (f.1, f.2) (c.in_err-blocks.ensures t.blocks r.end (blocks_here c.args.bytes.now t c.args.at e r c.next_task.new.reader.at c.in-Some.ensures.moved) p)
 
 pub returns-in-Ok : goal.returns-in-Ok
 returns-in-Ok c t e r p =
-    let m = c.in_ok-blocks.ensures t.blocks r.end (blocks-here c.args.bytes.now t c.args.at e r c.next_task.new.reader.at c.in-Some.ensures.moved) p in
+    let m = c.in_ok-blocks.ensures t.blocks r.end (blocks_here c.args.bytes.now t c.args.at e r c.next_task.new.reader.at c.in-Some.ensures.moved) p in
     let k = clock_is c.args.bytes.now t c.args.at e r c.in-Some.clock c.in-Some.ensures.told in
     let x = c.in-Ok.ensures.made in
     record {
@@ -29,7 +29,7 @@ returns-in-Ok c t e r p =
 
 pub returns-in-Err : goal.returns-in-Err
 returns-in-Err c t e r p =
-    let m = c.in_ok-blocks.ensures t.blocks r.end (blocks-here c.args.bytes.now t c.args.at e r c.next_task.new.reader.at c.in-Some.ensures.moved) p in
+    let m = c.in_ok-blocks.ensures t.blocks r.end (blocks_here c.args.bytes.now t c.args.at e r c.next_task.new.reader.at c.in-Some.ensures.moved) p in
     let k = clock_fits_lem c.args.bytes.now t c.args.at e r c.in-Some.clock c.in-Some.ensures.told in
     let bl = c.in_ok-blocks.field-0.blocks in
     let pl = c.in_ok-blocks.field-0.points in

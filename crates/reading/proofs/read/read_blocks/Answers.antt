@@ -3,8 +3,8 @@ use Rattle.std.proofs.lemmas.Result.{err_from_is_err_and}
 use Rattle.faults.specs.declared.fault.ReadFault.TheVariants.{Open}
 use Rattle.commands.specs.declared.table.Context.TheVariants.{BlockDue, AfterBlock}
 use Rattle.commands.specs.Commands.{answer, after}
-use Rattle.commands.proofs.Decoded.{read-there, read_as}
-use Rattle.reading.proofs.Blocked.{first_block, block_open, block_fault, not_a_block, block-many, follower_open, follower_fault, not_a_follower, task_end, point-then}
+use Rattle.commands.proofs.Decoded.{read_there, read_as}
+use Rattle.reading.proofs.Blocked.{first_block, block_open, block_fault, not_a_block, block_many, follower_open, follower_fault, not_a_follower, task_end, point_then}
 use Rattle.reading.proofs.read.read_blocks.Goals as goal
 
 pub turns-init : goal.turns-init
@@ -28,22 +28,22 @@ pub returns-in_default-command : goal.returns-in_default-command
 returns-in_default-command c =
     let n = c.in_ok-at.ensures in
     let bs = c.turns.invariant.0 in
-    let e = read-there _ _ c.args.reader.now.bytes.now _ _ _ _ n.told bs c.in-Some.is in
+    let e = read_there _ _ c.args.reader.now.bytes.now _ _ _ _ n.told bs c.in-Some.is in
     record { same = n.same ∙ bs; told = sym (not_a_block _ _ _ _ c.turns.invariant.2 _ _ e c.in_default-command.not-Block); forth = tt }
 
 pub returns-then-count-ge64 : goal.returns-then-count-ge64
 returns-then-count-ge64 c =
     let n = c.in_ok-at.ensures in
     let bs = c.turns.invariant.0 in
-    let e = read_as _ _ _ _ _ _ (read-there _ _ c.args.reader.now.bytes.now _ _ _ _ n.told bs c.in-Some.is) c.in-Block.is in
-    record { same = n.same ∙ bs; told = sym (block-many _ _ _ _ c.turns.invariant.2 _ _ e c.if-count-ge64.true); forth = tt }
+    let e = read_as _ _ _ _ _ _ (read_there _ _ c.args.reader.now.bytes.now _ _ _ _ n.told bs c.in-Some.is) c.in-Block.is in
+    record { same = n.same ∙ bs; told = sym (block_many _ _ _ _ c.turns.invariant.2 _ _ e c.if-count-ge64.true); forth = tt }
 
 pub returns-in_err-place : goal.returns-in_err-place
 returns-in_err-place c =
     let p = err_from_is_err_and c.from_residual-in_err-place.result c.from_residual-in_err-place.ensures.1 in
     let n = c.in_ok-at.ensures in
     let bs = c.turns.invariant.0 in
-    let e = read_as _ _ _ _ _ _ (read-there _ _ c.args.reader.now.bytes.now _ _ _ _ n.told bs c.in-Some.is) c.in-Block.is in
+    let e = read_as _ _ _ _ _ _ (read_there _ _ c.args.reader.now.bytes.now _ _ _ _ n.told bs c.in-Some.is) c.in-Block.is in
     let i = c.in_err-place.ensures in
     let on = n.moved ∙ ap (λ b. after BlockDue b c.turns.reader.at) bs in
     rw (p.1, p.2) (record { same = i.same ∙ n.same ∙ bs; told = sym (follower_fault _ _ _ _ c.turns.invariant.2 _ _ e c.if-count-ge64.false _ on (sym (i.told ∙ ap (λ b. answer AfterBlock b c.next.new.self.at) (n.same ∙ bs)))); forth = tt })
@@ -52,7 +52,7 @@ pub returns-in_default-2 : goal.returns-in_default-2
 returns-in_default-2 c =
     let n = c.in_ok-at.ensures in
     let bs = c.turns.invariant.0 in
-    let e = read_as _ _ _ _ _ _ (read-there _ _ c.args.reader.now.bytes.now _ _ _ _ n.told bs c.in-Some.is) c.in-Block.is in
+    let e = read_as _ _ _ _ _ _ (read_there _ _ c.args.reader.now.bytes.now _ _ _ _ n.told bs c.in-Some.is) c.in-Block.is in
     let i = c.in_ok-place.ensures in
     let on = n.moved ∙ ap (λ b. after BlockDue b c.turns.reader.at) bs in
     let f = sym (i.told ∙ ap (λ b. answer AfterBlock b c.next.new.self.at) (n.same ∙ bs)) ∙ ap Ok c.in_default-2.is in
@@ -62,26 +62,26 @@ pub turns-preserved : goal.turns-preserved
 turns-preserved c =
     let n = c.in_ok-at.ensures in
     let bs = c.turns.invariant.0 in
-    let e = read_as _ _ _ _ _ _ (read-there _ _ c.args.reader.now.bytes.now _ _ _ _ n.told bs c.in-Some.is) c.in-Block.is in
+    let e = read_as _ _ _ _ _ _ (read_there _ _ c.args.reader.now.bytes.now _ _ _ _ n.told bs c.in-Some.is) c.in-Block.is in
     let i = c.in_ok-place.ensures in
     let on = n.moved ∙ ap (λ b. after BlockDue b c.turns.reader.at) bs in
-    let f = read-there _ _ c.args.reader.now.bytes.now _ _ _ _ i.told (n.same ∙ bs) c.in-Some-2.is in
+    let f = read_there _ _ c.args.reader.now.bytes.now _ _ _ _ i.told (n.same ∙ bs) c.in-Some-2.is in
     let long = ap length bs in
     let first : (c.turns.reader.at < c.next.new.self.at) × (c.next.new.self.at ≤ length c.turns.reader.bytes.now) = search rules in
     let second : (c.next.new.self.at < c.next-in-turns.new.self.at) × (c.next-in-turns.new.self.at ≤ length c.next.new.self.bytes.now) = search rules in (
       i.same ∙ n.same ∙ bs,
       omega (arith, c.turns.invariant.1),
-      point-then _ _ _ _ c.turns.invariant.2 _ _ e c.if-count-ge64.false _ on _ _ f _ _ c.in-Point.is _ (i.moved ∙ ap (λ b. after AfterBlock b c.next.new.self.at) (n.same ∙ bs)) (omega arith) (omega arith),
+      point_then _ _ _ _ c.turns.invariant.2 _ _ e c.if-count-ge64.false _ on _ _ f _ _ c.in-Point.is _ (i.moved ∙ ap (λ b. after AfterBlock b c.next.new.self.at) (n.same ∙ bs)) (omega arith) (omega arith),
     )
 
 pub returns-in-EndTask : goal.returns-in-EndTask
 returns-in-EndTask c =
     let n = c.in_ok-at.ensures in
     let bs = c.turns.invariant.0 in
-    let e = read_as _ _ _ _ _ _ (read-there _ _ c.args.reader.now.bytes.now _ _ _ _ n.told bs c.in-Some.is) c.in-Block.is in
+    let e = read_as _ _ _ _ _ _ (read_there _ _ c.args.reader.now.bytes.now _ _ _ _ n.told bs c.in-Some.is) c.in-Block.is in
     let i = c.in_ok-place.ensures in
     let on = n.moved ∙ ap (λ b. after BlockDue b c.turns.reader.at) bs in
-    let f = read-there _ _ c.args.reader.now.bytes.now _ _ _ _ i.told (n.same ∙ bs) c.in-Some-2.is in
+    let f = read_there _ _ c.args.reader.now.bytes.now _ _ _ _ i.told (n.same ∙ bs) c.in-Some-2.is in
     let first : (c.turns.reader.at < c.next.new.self.at) × (c.next.new.self.at ≤ length c.turns.reader.bytes.now) = search rules in
     let second : (c.next.new.self.at < c.next-in-turns.new.self.at) × (c.next-in-turns.new.self.at ≤ length c.next.new.self.bytes.now) = search rules in
     record {
@@ -94,8 +94,8 @@ pub returns-in_default-follower : goal.returns-in_default-follower
 returns-in_default-follower c =
     let n = c.in_ok-at.ensures in
     let bs = c.turns.invariant.0 in
-    let e = read_as _ _ _ _ _ _ (read-there _ _ c.args.reader.now.bytes.now _ _ _ _ n.told bs c.in-Some.is) c.in-Block.is in
+    let e = read_as _ _ _ _ _ _ (read_there _ _ c.args.reader.now.bytes.now _ _ _ _ n.told bs c.in-Some.is) c.in-Block.is in
     let i = c.in_ok-place.ensures in
     let on = n.moved ∙ ap (λ b. after BlockDue b c.turns.reader.at) bs in
-    let f = read-there _ _ c.args.reader.now.bytes.now _ _ _ _ i.told (n.same ∙ bs) c.in-Some-2.is in
+    let f = read_there _ _ c.args.reader.now.bytes.now _ _ _ _ i.told (n.same ∙ bs) c.in-Some-2.is in
     record { same = i.same ∙ n.same ∙ bs; told = sym (not_a_follower _ _ _ _ c.turns.invariant.2 _ _ e c.if-count-ge64.false _ on _ _ f c.in_default-follower.not-Point c.in_default-follower.not-EndTask); forth = tt }

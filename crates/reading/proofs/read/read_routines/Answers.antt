@@ -3,9 +3,9 @@ use Rattle.std.proofs.lemmas.Result.{err_from_is_err_and}
 use Rattle.commands.specs.declared.table.Context.TheVariants.{Top}
 use Rattle.commands.specs.Commands.{answer, after}
 use Rattle.reading.specs.Heads.{held}
-use Rattle.commands.proofs.Decoded.{stays, here, read-there, read_as}
-use Rattle.reading.proofs.Turns.{told-there}
-use Rattle.reading.proofs.Gathered.{gathered_as, first_routine, no_more, past-routines, routine_fault, routine_used, routine_many, body_fault, body_open, body_closed}
+use Rattle.commands.proofs.Decoded.{stays, here, read_there, read_as}
+use Rattle.reading.proofs.Turns.{told_there}
+use Rattle.reading.proofs.Gathered.{gathered_as, first_routine, no_more, past_routines, routine_fault, routine_used, routine_many, body_fault, body_open, body_closed}
 use Rattle.reading.proofs.read.read_routines.Goals as goal
 
 pub routines-init : goal.routines-init
@@ -30,21 +30,21 @@ pub returns-in_default-command : goal.returns-in_default-command
 returns-in_default-command c =
     let n = c.in_ok-at.ensures in
     let bs = c.routines.invariant.0 in
-    let e = read-there _ _ c.args.reader.now.bytes.now _ _ _ _ n.told bs c.in-Some.is in
-    record { same = n.same ∙ bs; told = ap (λ p. Ok (held c.routines.heads, p)) (here _ _ _ _ _ e) ∙ sym (past-routines _ _ _ _ c.routines.invariant.1 _ _ e c.in_default-command.not-Routine) }
+    let e = read_there _ _ c.args.reader.now.bytes.now _ _ _ _ n.told bs c.in-Some.is in
+    record { same = n.same ∙ bs; told = ap (λ p. Ok (held c.routines.heads, p)) (here _ _ _ _ _ e) ∙ sym (past_routines _ _ _ _ c.routines.invariant.1 _ _ e c.in_default-command.not-Routine) }
 
 pub returns-then-contains : goal.returns-then-contains
 returns-then-contains c =
     let n = c.in_ok-at.ensures in
     let bs = c.routines.invariant.0 in
-    let e = read_as _ _ _ _ _ _ (read-there _ _ c.args.reader.now.bytes.now _ _ _ _ n.told bs c.in-Some.is) c.in-Routine.is in
+    let e = read_as _ _ _ _ _ _ (read_there _ _ c.args.reader.now.bytes.now _ _ _ _ n.told bs c.in-Some.is) c.in-Routine.is in
     record { same = n.same ∙ bs; told = sym (routine_used _ _ _ _ c.routines.invariant.1 _ _ e (sym c.if-contains.ensures)) }
 
 pub returns-then-len-ge32 : goal.returns-then-len-ge32
 returns-then-len-ge32 c =
     let n = c.in_ok-at.ensures in
     let bs = c.routines.invariant.0 in
-    let e = read_as _ _ _ _ _ _ (read-there _ _ c.args.reader.now.bytes.now _ _ _ _ n.told bs c.in-Some.is) c.in-Routine.is in
+    let e = read_as _ _ _ _ _ _ (read_there _ _ c.args.reader.now.bytes.now _ _ _ _ n.told bs c.in-Some.is) c.in-Routine.is in
     record { same = n.same ∙ bs; told = sym (routine_many _ _ _ _ c.routines.invariant.1 _ _ e (sym c.if-contains.ensures) (omega (arith, c.len.ensures.is))) }
 
 pub returns-in_err-ran : goal.returns-in_err-ran
@@ -52,31 +52,31 @@ returns-in_err-ran c =
     let p = err_from_is_err_and c.from_residual-in_err-ran.result c.from_residual-in_err-ran.ensures.1 in
     let n = c.in_ok-at.ensures in
     let bs = c.routines.invariant.0 in
-    let e = read_as _ _ _ _ _ _ (read-there _ _ c.args.reader.now.bytes.now _ _ _ _ n.told bs c.in-Some.is) c.in-Routine.is in
+    let e = read_as _ _ _ _ _ _ (read_there _ _ c.args.reader.now.bytes.now _ _ _ _ n.told bs c.in-Some.is) c.in-Routine.is in
     let i = c.in_err-ran.ensures in
     let on = n.moved ∙ ap (λ b. after Top b c.routines.reader.at) bs in
     rw (p.1, p.2)
-    (record { same = i.same ∙ n.same ∙ bs; told = sym (body_fault _ _ _ _ c.routines.invariant.1 _ _ e (sym c.if-contains.ensures) (omega (arith, c.len.ensures.is)) _ _ _ (told-there _ _ _ _ _ _ _ _ _ (n.same ∙ bs) on i.told)) })
+    (record { same = i.same ∙ n.same ∙ bs; told = sym (body_fault _ _ _ _ c.routines.invariant.1 _ _ e (sym c.if-contains.ensures) (omega (arith, c.len.ensures.is)) _ _ _ (told_there _ _ _ _ _ _ _ _ _ (n.same ∙ bs) on i.told)) })
 
 pub returns-in_default-last : goal.returns-in_default-last
 returns-in_default-last c =
     let n = c.in_ok-at.ensures in
     let bs = c.routines.invariant.0 in
-    let e = read_as _ _ _ _ _ _ (read-there _ _ c.args.reader.now.bytes.now _ _ _ _ n.told bs c.in-Some.is) c.in-Routine.is in
+    let e = read_as _ _ _ _ _ _ (read_there _ _ c.args.reader.now.bytes.now _ _ _ _ n.told bs c.in-Some.is) c.in-Routine.is in
     let i = c.in_ok-ran.ensures in
     let on = n.moved ∙ ap (λ b. after Top b c.routines.reader.at) bs in
-    record { same = i.same ∙ n.same ∙ bs; told = sym (body_open _ _ _ _ c.routines.invariant.1 _ _ e (sym c.if-contains.ensures) (omega (arith, c.len.ensures.is)) _ _ _ (told-there _ _ _ _ _ _ _ _ _ (n.same ∙ bs) on i.told) c.in_default-last.not-EndRoutine) }
+    record { same = i.same ∙ n.same ∙ bs; told = sym (body_open _ _ _ _ c.routines.invariant.1 _ _ e (sym c.if-contains.ensures) (omega (arith, c.len.ensures.is)) _ _ _ (told_there _ _ _ _ _ _ _ _ _ (n.same ∙ bs) on i.told) c.in_default-last.not-EndRoutine) }
 
 pub routines-preserved : goal.routines-preserved
 routines-preserved c =
     let n = c.in_ok-at.ensures in
     let bs = c.routines.invariant.0 in
-    let e = read_as _ _ _ _ _ _ (read-there _ _ c.args.reader.now.bytes.now _ _ _ _ n.told bs c.in-Some.is) c.in-Routine.is in
+    let e = read_as _ _ _ _ _ _ (read_there _ _ c.args.reader.now.bytes.now _ _ _ _ n.told bs c.in-Some.is) c.in-Routine.is in
     let i = c.in_ok-ran.ensures in
     let on = n.moved ∙ ap (λ b. after Top b c.routines.reader.at) bs in
     let long = ap length bs in
     let forth : (c.routines.reader.at < c.next.new.self.at) × (c.next.new.self.at ≤ length c.routines.reader.bytes.now) = search rules in (
       i.same ∙ n.same ∙ bs,
       gathered_as _ _ _ _ _ (sym c.add.ensures)
-          (body_closed _ _ _ _ c.routines.invariant.1 _ _ e (sym c.if-contains.ensures) (omega (arith, c.len.ensures.is)) _ _ _ (told-there _ _ _ _ _ _ _ _ _ (n.same ∙ bs) on i.told) c.in-EndRoutine.is (omega (arith, i.within)) (omega arith)),
+          (body_closed _ _ _ _ c.routines.invariant.1 _ _ e (sym c.if-contains.ensures) (omega (arith, c.len.ensures.is)) _ _ _ (told_there _ _ _ _ _ _ _ _ _ (n.same ∙ bs) on i.told) c.in-EndRoutine.is (omega (arith, i.within)) (omega arith)),
     )

@@ -3,8 +3,8 @@ use Rattle.std.proofs.lemmas.Result.{err_from_is_err_and}
 use Rattle.commands.specs.declared.table.Context.TheVariants.{Tasks}
 use Rattle.commands.specs.Commands.{answer, after}
 use Rattle.reading.specs.Heads.{held}
-use Rattle.commands.proofs.Decoded.{stays, read-there, read_as}
-use Rattle.reading.proofs.Gathered.{tasking_as, first_task, no_more_tasks, not_a_task, task_fault, task_used, task_many, task_blocks_fault, task_done, blocks-there}
+use Rattle.commands.proofs.Decoded.{stays, read_there, read_as}
+use Rattle.reading.proofs.Gathered.{tasking_as, first_task, no_more_tasks, not_a_task, task_fault, task_used, task_many, task_blocks_fault, task_done, blocks_there}
 use Rattle.reading.proofs.read.read_tasks.Goals as goal
 
 pub tasks-init : goal.tasks-init
@@ -29,21 +29,21 @@ pub returns-in_default-command : goal.returns-in_default-command
 returns-in_default-command c =
     let n = c.in_ok-at.ensures in
     let bs = c.tasks.invariant.0 in
-    let e = read-there _ _ c.args.reader.now.bytes.now _ _ _ _ n.told bs c.in-Some.is in
+    let e = read_there _ _ c.args.reader.now.bytes.now _ _ _ _ n.told bs c.in-Some.is in
     record { same = n.same ∙ bs; told = sym (not_a_task _ _ _ _ c.tasks.invariant.1 _ _ e c.in_default-command.not-Task) }
 
 pub returns-then-contains : goal.returns-then-contains
 returns-then-contains c =
     let n = c.in_ok-at.ensures in
     let bs = c.tasks.invariant.0 in
-    let e = read_as _ _ _ _ _ _ (read-there _ _ c.args.reader.now.bytes.now _ _ _ _ n.told bs c.in-Some.is) c.in-Task.is in
+    let e = read_as _ _ _ _ _ _ (read_there _ _ c.args.reader.now.bytes.now _ _ _ _ n.told bs c.in-Some.is) c.in-Task.is in
     record { same = n.same ∙ bs; told = sym (task_used _ _ _ _ c.tasks.invariant.1 _ _ _ _ e (sym c.if-contains.ensures)) }
 
 pub returns-then-len-ge32 : goal.returns-then-len-ge32
 returns-then-len-ge32 c =
     let n = c.in_ok-at.ensures in
     let bs = c.tasks.invariant.0 in
-    let e = read_as _ _ _ _ _ _ (read-there _ _ c.args.reader.now.bytes.now _ _ _ _ n.told bs c.in-Some.is) c.in-Task.is in
+    let e = read_as _ _ _ _ _ _ (read_there _ _ c.args.reader.now.bytes.now _ _ _ _ n.told bs c.in-Some.is) c.in-Task.is in
     record { same = n.same ∙ bs; told = sym (task_many _ _ _ _ c.tasks.invariant.1 _ _ _ _ e (sym c.if-contains.ensures) (omega (arith, c.len.ensures.is))) }
 
 pub returns-in_err-read_blocks : goal.returns-in_err-read_blocks
@@ -51,22 +51,22 @@ returns-in_err-read_blocks c =
     let p = err_from_is_err_and c.from_residual-in_err-read_blocks.result c.from_residual-in_err-read_blocks.ensures.1 in
     let n = c.in_ok-at.ensures in
     let bs = c.tasks.invariant.0 in
-    let e = read_as _ _ _ _ _ _ (read-there _ _ c.args.reader.now.bytes.now _ _ _ _ n.told bs c.in-Some.is) c.in-Task.is in
+    let e = read_as _ _ _ _ _ _ (read_there _ _ c.args.reader.now.bytes.now _ _ _ _ n.told bs c.in-Some.is) c.in-Task.is in
     let i = c.in_err-read_blocks.ensures in
     let on = n.moved ∙ ap (λ b. after Tasks b c.tasks.reader.at) bs in
     rw (p.1, p.2)
-    (record { same = i.same ∙ n.same ∙ bs; told = sym (task_blocks_fault _ _ _ _ c.tasks.invariant.1 _ _ _ _ e (sym c.if-contains.ensures) (omega (arith, c.len.ensures.is)) _ (blocks-there _ _ _ _ _ (n.same ∙ bs) on i.told)) })
+    (record { same = i.same ∙ n.same ∙ bs; told = sym (task_blocks_fault _ _ _ _ c.tasks.invariant.1 _ _ _ _ e (sym c.if-contains.ensures) (omega (arith, c.len.ensures.is)) _ (blocks_there _ _ _ _ _ (n.same ∙ bs) on i.told)) })
 
 pub tasks-preserved : goal.tasks-preserved
 tasks-preserved c =
     let n = c.in_ok-at.ensures in
     let bs = c.tasks.invariant.0 in
-    let e = read_as _ _ _ _ _ _ (read-there _ _ c.args.reader.now.bytes.now _ _ _ _ n.told bs c.in-Some.is) c.in-Task.is in
+    let e = read_as _ _ _ _ _ _ (read_there _ _ c.args.reader.now.bytes.now _ _ _ _ n.told bs c.in-Some.is) c.in-Task.is in
     let i = c.in_ok-read_blocks.ensures in
     let on = n.moved ∙ ap (λ b. after Tasks b c.tasks.reader.at) bs in
     let long = ap length bs in
     let forth : (c.tasks.reader.at < c.next.new.self.at) × (c.next.new.self.at ≤ length c.tasks.reader.bytes.now) = search rules in (
       i.same ∙ n.same ∙ bs,
       tasking_as _ _ _ _ _ (sym c.add.ensures)
-          (task_done _ _ _ _ c.tasks.invariant.1 _ _ _ _ e (sym c.if-contains.ensures) (omega (arith, c.len.ensures.is)) _ (blocks-there _ _ _ _ _ (n.same ∙ bs) on i.told) (omega (arith, i.forth)) (omega arith)),
+          (task_done _ _ _ _ c.tasks.invariant.1 _ _ _ _ e (sym c.if-contains.ensures) (omega (arith, c.len.ensures.is)) _ (blocks_there _ _ _ _ _ (n.same ∙ bs) on i.told) (omega (arith, i.forth)) (omega arith)),
     )

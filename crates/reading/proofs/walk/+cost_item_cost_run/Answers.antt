@@ -3,7 +3,7 @@ use Rattle.std.proofs.lemmas.Result.{err_from_is_err_and}
 use Rattle.commands.specs.declared.table.Context.TheVariants.{Body}
 use Rattle.faults.specs.declared.fault.ReadFault.TheVariants.{Open}
 use Rattle.commands.specs.Commands.{answer, after}
-use Rattle.reading.proofs.Turns.{run_err, item_err, told-there, item-there, item_by, start, at_open, at_fault, at-end, at_item_fault, at_item, too_deep, first_arm, arm_fault, arm_last, arm_none, arm_next, turns-last}
+use Rattle.reading.proofs.Turns.{run_err, item_err, told_there, item_there, item_by, start, at_open, at_fault, at_end, at_item_fault, at_item, too_deep, first_arm, arm_fault, arm_last, arm_none, arm_next, turns_last}
 use Rattle.reading.proofs.walk.+cost_item_cost_run.Goals as goal
 
 pub cost_run-returns-then-depth-eq0 : goal.cost_run-returns-then-depth-eq0
@@ -38,7 +38,7 @@ cost_run-returns-then-ends_run t c =
     let long = ap length bs in
     record {
       same = n.same ∙ bs;
-      told = at-end _ _ _ _ _ _ c.items.invariant.3 _ _ e (sym c.if-ends_run.ensures) _ (n.moved ∙ ap (λ b. after Body b c.items.reader.at) bs);
+      told = at_end _ _ _ _ _ _ c.items.invariant.3 _ _ e (sym c.if-ends_run.ensures) _ (n.moved ∙ ap (λ b. after Body b c.items.reader.at) bs);
       within = search (rules, long);
     }
 
@@ -53,7 +53,7 @@ cost_run-returns-in_err-cost t c =
     rw (p.1, p.2)
     (record {
       same = i.same ∙ n.same ∙ bs;
-      told = run_err _ _ _ _ (at_item_fault _ _ _ _ _ _ c.items.invariant.3 _ _ e (sym c.if-ends_run.ensures) _ _ (item-there _ _ _ _ _ _ _ _ _ _ (n.same ∙ bs) on i.told));
+      told = run_err _ _ _ _ (at_item_fault _ _ _ _ _ _ c.items.invariant.3 _ _ e (sym c.if-ends_run.ensures) _ _ (item_there _ _ _ _ _ _ _ _ _ _ (n.same ∙ bs) on i.told));
       within = tt;
     })
 
@@ -70,7 +70,7 @@ cost_run-items-preserved t c =
       omega (arith, i.within, c.items.invariant.1),
       omega (arith, c.added-total.ensures),
       rw c.added-total.ensures
-          (at_item _ _ _ _ _ _ c.items.invariant.3 _ _ e (sym c.if-ends_run.ensures) _ _ (item-there _ _ _ _ _ _ _ _ _ _ (n.same ∙ bs) on i.told) (omega (arith, i.within)) (omega arith)),
+          (at_item _ _ _ _ _ _ c.items.invariant.3 _ _ e (sym c.if-ends_run.ensures) _ _ (item_there _ _ _ _ _ _ _ _ _ _ (n.same ∙ bs) on i.told) (omega (arith, i.within)) (omega arith)),
     )
 
 pub cost_item-arms-init : goal.cost_item-arms-init
@@ -84,7 +84,7 @@ cost_item-returns-in_err-ran-in-Either t c =
     rw (p.1, p.2)
     (record {
       same = n.same ∙ bs;
-      told = item_by _ _ _ _ _ _ _ _ _ c.in-Either.is (item_err _ _ _ _ (arm_fault _ _ _ _ _ _ _ c.arms.invariant.3 _ _ (told-there _ _ _ _ _ _ _ _ _ bs refl n.told)));
+      told = item_by _ _ _ _ _ _ _ _ _ c.in-Either.is (item_err _ _ _ _ (arm_fault _ _ _ _ _ _ _ c.arms.invariant.3 _ _ (told_there _ _ _ _ _ _ _ _ _ bs refl n.told)));
       within = tt;
     })
 
@@ -96,7 +96,7 @@ cost_item-arms-preserved t c =
       n.same ∙ bs,
       omega (arith, n.within, c.arms.invariant.1),
       omega (arith, n.within, c.dearer-best.ensures, c.arms.invariant.2),
-      rw c.dearer-best.ensures (arm_next _ _ _ _ _ _ _ c.arms.invariant.3 _ _ (told-there _ _ _ _ _ _ _ _ _ bs refl n.told) c.in-Or.is n.within.1 (omega (arith, n.within))),
+      rw c.dearer-best.ensures (arm_next _ _ _ _ _ _ _ c.arms.invariant.3 _ _ (told_there _ _ _ _ _ _ _ _ _ bs refl n.told) c.in-Or.is n.within.1 (omega (arith, n.within))),
     )
 
 pub cost_item-returns-in-EndEither : goal.cost_item-returns-in-EndEither
@@ -105,7 +105,7 @@ cost_item-returns-in-EndEither t c =
     let bs = c.arms.invariant.0 in
     record {
       same = n.same ∙ bs;
-      told = item_by _ _ _ _ _ _ _ _ _ c.in-Either.is (rw c.dearer-best.ensures (arm_last _ _ _ _ _ _ _ c.arms.invariant.3 _ _ (told-there _ _ _ _ _ _ _ _ _ bs refl n.told) c.in-EndEither.is));
+      told = item_by _ _ _ _ _ _ _ _ _ c.in-Either.is (rw c.dearer-best.ensures (arm_last _ _ _ _ _ _ _ c.arms.invariant.3 _ _ (told_there _ _ _ _ _ _ _ _ _ bs refl n.told) c.in-EndEither.is));
       within = omega (arith, n.within, c.dearer-best.ensures, c.arms.invariant.1, c.arms.invariant.2);
     }
 
@@ -115,7 +115,7 @@ cost_item-returns-in_default-last-2 t c =
     let bs = c.arms.invariant.0 in
     record {
       same = n.same ∙ bs;
-      told = item_by _ _ _ _ _ _ _ _ _ c.in-Either.is (item_err _ _ _ _ (arm_none _ _ _ _ _ _ _ c.arms.invariant.3 _ _ (told-there _ _ _ _ _ _ _ _ _ bs refl n.told) c.in_default-last-2.not-Or c.in_default-last-2.not-EndEither));
+      told = item_by _ _ _ _ _ _ _ _ _ c.in-Either.is (item_err _ _ _ _ (arm_none _ _ _ _ _ _ _ c.arms.invariant.3 _ _ (told_there _ _ _ _ _ _ _ _ _ bs refl n.told) c.in_default-last-2.not-Or c.in_default-last-2.not-EndEither));
       within = tt;
     }
 
@@ -124,6 +124,6 @@ cost_item-returns-in-EndRepeat t c =
     let n = c.in_ok-ran-in-Repeat.ensures in
     record {
       same = n.same;
-      told = turns-last _ _ _ _ _ _ _ c.in-Repeat.is _ _ n.told _ c.in-EndRepeat.is c.capped-in-EndRepeat.ensures;
+      told = turns_last _ _ _ _ _ _ _ c.in-Repeat.is _ _ n.told _ c.in-EndRepeat.is c.capped-in-EndRepeat.ensures;
       within = omega (arith, n.within, c.capped-in-EndRepeat.ensures);
     }

@@ -9,18 +9,18 @@ use Rattle.tasks.specs.declared.timings.Timing.{Timing}
 use Rattle.rules.specs.declared.multiple.Multiple.{Multiple}
 use Rattle.rules.specs.Tables.{no_timing, deadline_at}
 use Rattle.rules.specs.Walks.{Next, task_of}
-use Rattle.rules.proofs.Judging.{Walked, sum-small, walk_starts, walk_meets, walk_ends, walk_stops}
+use Rattle.rules.proofs.Judging.{Walked, sum_small, walk_starts, walk_meets, walk_ends, walk_stops}
 use Rattle.rules.proofs.Steps.{carried_small, least_at}
 use Rattle.rules.proofs.exact.walk.Goals as goal
 use Rattle.rules.proofs.exact.walk.Goals.{After-deadline-deadline, At-loop-best, After-replace_top}
 
-by-is : (c : After-deadline-deadline) → c.deadline-deadline.result ≡ deadline_at c.args.tasks.now c.args.place
-by-is c =
+by_is : (c : After-deadline-deadline) → c.deadline-deadline.result ≡ deadline_at c.args.tasks.now c.args.place
+by_is c =
     let x = c.index-tasks-place.result in
     c.deadline-deadline.ensures ∙ ap (λ (y : Timing). y.deadline) (get_or_read c.args.tasks.now _ x (omega (arith, c.requires.asked.first, c.requires.asked.last)) c.index-tasks-place.is no_timing)
 
-demand-fits : (c : At-loop-best) → c.loop-best.demand ≤ 406400000000000
-demand-fits c = sum-small c.args.tasks.now c.args.place _ _ _ _ c.loop-best.invariant.2.0 c.requires.asked c.loop-best.invariant.2.1
+demand_fits : (c : At-loop-best) → c.loop-best.demand ≤ 406400000000000
+demand_fits c = sum_small c.args.tasks.now c.args.place _ _ _ _ c.loop-best.invariant.2.0 c.requires.asked c.loop-best.invariant.2.1
 
 pub left-requires : goal.left-requires
 left-requires c =
@@ -32,10 +32,10 @@ loop-best-init c =
     (c.requires.good, c.requires.size, (0, walk_starts c.args.tasks.now c.args.place (held c.args.heap.now) c.args.first _ c.requires.holds c.requires.demand is))
 
 pub left-requires-in-loop-best : goal.left-requires-in-loop-best
-left-requires-in-loop-best c = demand-fits c
+left-requires-in-loop-best c = demand_fits c
 
 pub left-requires-then-deadline-next : goal.left-requires-then-deadline-next
-left-requires-then-deadline-next c = demand-fits (goal.at.left-requires-then-deadline-next c).At-loop-best
+left-requires-then-deadline-next c = demand_fits (goal.at.left-requires-then-deadline-next c).At-loop-best
 
 pub returns-then-deadline-next : goal.returns-then-deadline-next
 returns-then-deadline-next c =
@@ -43,7 +43,7 @@ returns-then-deadline-next c =
     let p = c.args.place in
     let l = c.loop-best in
     let d = c.deadline-deadline.result in
-    let by = by-is (goal.at.returns-then-deadline-next c).After-deadline-deadline in
+    let by = by_is (goal.at.returns-then-deadline-next c).After-deadline-deadline in
     let least = least_at c.in-Some.next (held l.heap) c.in-Some.ensures.cases.1 in
     let far = All-weaker (λ (z : Multiple). c.in-Some.next.at ≤ z.at) (λ (z : Multiple). deadline_at ts p ≤ z.at) (λ z h. omega (arith, h, by, c.if-deadline-next.true)) (held l.heap) least in
     let slack = ap (λ t. pos t -ℤ pos l.demand) by in
@@ -54,21 +54,21 @@ returns-then-deadline-next c =
     record { tolerance = is ∙ ends.1; moment = by ∙ ends.0 }
 
 pub left-requires-in-loop-best-2 : goal.left-requires-in-loop-best-2
-left-requires-in-loop-best-2 c = demand-fits (goal.at.left-requires-in-loop-best-2 c).At-loop-best
+left-requires-in-loop-best-2 c = demand_fits (goal.at.left-requires-in-loop-best-2 c).At-loop-best
 
-next-there : (c : After-replace_top) → c.in-Some.next.task < length c.args.tasks.now
-next-there c =
+next_there : (c : After-replace_top) → c.in-Some.next.task < length c.args.tasks.now
+next_there c =
     let w = c.loop-best.invariant.2.1 in
     let at = all-has (Next c.args.tasks.now c.args.place c.loop-best.invariant.2.0) (held c.loop-best.heap) c.in-Some.next w.holds.each c.in-Some.ensures.cases.0 in
     omega (arith, at.there, c.requires.asked.last)
 
-cost-is : (c : After-replace_top) → c.from-demand.result ≡ (task_of c.args.tasks.now c.in-Some.next).cost
-cost-is c = c.from-demand.ensures ∙ c.cost.ensures ∙ ap (λ (y : Timing). y.cost) (get_or_read c.args.tasks.now c.in-Some.next.task c.index-tasks-next.result (next-there c) c.index-tasks-next.is no_timing)
+cost_is : (c : After-replace_top) → c.from-demand.result ≡ (task_of c.args.tasks.now c.in-Some.next).cost
+cost_is c = c.from-demand.ensures ∙ c.cost.ensures ∙ ap (λ (y : Timing). y.cost) (get_or_read c.args.tasks.now c.in-Some.next.task c.index-tasks-next.result (next_there c) c.index-tasks-next.is no_timing)
 
 pub loop-best-smaller : goal.loop-best-smaller
 loop-best-smaller c =
     let at = goal.at.loop-best-smaller c in
-    omega (arith, demand-fits at.At-loop-best, cost-is c, (task_of c.args.tasks.now c.in-Some.next).work.0)
+    omega (arith, demand_fits at.At-loop-best, cost_is c, (task_of c.args.tasks.now c.in-Some.next).work.0)
 
 pub loop-best-preserved : goal.loop-best-preserved
 loop-best-preserved c =
@@ -82,21 +82,21 @@ loop-best-preserved c =
     let y : Multiple = record { at = x.at + c.period.result; task = x.task } in
     let gave : c.replace_top.result ≡ Some x = r.value ∙ sym top.value in
     let moved = (MatchOption-at_some _ _ x gave r.held).1 in
-    let period = c.period.ensures ∙ ap (λ (z : Timing). z.period) (get_or_read ts x.task c.index-tasks-next-in-loop-best.result (next-there c) c.index-tasks-next-in-loop-best.is no_timing) in
+    let period = c.period.ensures ∙ ap (λ (z : Timing). z.period) (get_or_read ts x.task c.index-tasks-next-in-loop-best.result (next_there c) c.index-tasks-next-in-loop-best.is no_timing) in
     let step = ap (λ n. x.at + n) period in
-    let early : x.at < deadline_at ts p = omega (arith, by-is at.After-deadline-deadline, c.if-deadline-next.false) in
+    let early : x.at < deadline_at ts p = omega (arith, by_is at.After-deadline-deadline, c.if-deadline-next.false) in
     let v = to_z-of_z w64 c.left-in-loop-best-2.result (record { sfits = c.left-in-loop-best-2.type_inv }) ∙ c.left-in-loop-best-2.ensures in
     let t = c.judged-best.ensures.tolerance ∙ ap (λ z. cond (lt_z l.best.tolerance z) z l.best.tolerance) v in
     let m = c.judged-best.ensures.moment ∙ ap (λ z. cond (lt_z l.best.tolerance z) x.at l.best.moment) v in
     let walked = walk_meets ts p x y (held l.heap) (held c.replace_top.new.self) l.demand l.best.tolerance l.best.moment l.invariant.2.0 _ _ top.cases.0 (least_at x (held l.heap) top.cases.1) early refl step moved t m l.invariant.2.1 in
-    (r.good, r.size ∙ l.invariant.1, (x.at, subst (λ n. Walked ts p (held c.replace_top.new.self) (l.demand + n) c.judged-best.result.tolerance c.judged-best.result.moment x.at) (sym (cost-is c)) walked))
+    (r.good, r.size ∙ l.invariant.1, (x.at, subst (λ n. Walked ts p (held c.replace_top.new.self) (l.demand + n) c.judged-best.result.tolerance c.judged-best.result.moment x.at) (sym (cost_is c)) walked))
 
 pub returns : goal.returns
 returns c =
     let ts = c.args.tasks.now in
     let p = c.args.place in
     let l = c.loop-best in
-    let by = by-is (goal.at.returns c).After-deadline-deadline in
+    let by = by_is (goal.at.returns c).After-deadline-deadline in
     let slack = ap (λ t. pos t -ℤ pos l.demand) by in
     let fits : SFits w64 l.best.tolerance = search rules in
     let no : c.left-in-loop-best.result ≤ℤ l.best.tolerance = let right : SFits w64 c.left-in-loop-best.result = record { sfits = c.left-in-loop-best.type_inv } in let h = simp to_z-of_z at c.loop-best-test.false in grind (arith, ints) in

@@ -18,7 +18,7 @@ use Rattle.selection.proofs.selecting.select.Goals.{At-loop-end}
 
 -- the selection for all blocks, whose value was found
 chosen : (g : given.Over) (c : At-loop-end g) → (s : Chosen g.row.M.Denot) × (selected g.M.TotalOrder.before g.M.Measure.none g.M.Measure.join c.args.task.now c.args.limit (point_count c.args.task.now + 1) ≡ Some s) × (s.value ≡ c.in-Some.value)
-chosen g c = steps.value-some g.M.TotalOrder.before g.M.Measure.none g.M.Measure.join c.args.task.now c.args.limit g.M.TotalOrder.asym g.M.TotalOrder.chain (selected g.M.TotalOrder.before g.M.Measure.none g.M.Measure.join c.args.task.now c.args.limit (point_count c.args.task.now + 1)) c.in-Some.value (sym c.link-links.ensures.value ∙ c.in-Some.is)
+chosen g c = steps.value_some g.M.TotalOrder.before g.M.Measure.none g.M.Measure.join c.args.task.now c.args.limit g.M.TotalOrder.asym g.M.TotalOrder.chain (selected g.M.TotalOrder.before g.M.Measure.none g.M.Measure.join c.args.task.now c.args.limit (point_count c.args.task.now + 1)) c.in-Some.value (sym c.link-links.ensures.value ∙ c.in-Some.is)
 
 -- a turn of the walk
 module _ (g : given.Over) (c : At-loop-end g) where
@@ -58,7 +58,7 @@ overflow_shl-points g c = let w = its g (goal.at.overflow_shl-points g c).At-loo
 
 -- the bit that the code marks
 bit : (start points : ℕ) → 0 < start → start ≤ 64 → points + (1 * 2 ^ (start - 1)) % 2 ^ 64 ≡ points + walk.mark start
-bit start points h l = ap (λ b. points + b) (one_shl (start - 1) 64 (omega arith) ∙ sym (walk.mark-is start h))
+bit start points h l = ap (λ b. points + b) (one_shl (start - 1) 64 (omega arith) ∙ sym (walk.mark_is start h))
 
 pub overflow_add-points : goal.overflow_add-points
 overflow_add-points g c =
@@ -102,8 +102,8 @@ loop-end-preserved g c =
     )
 
 -- the selection by its definition
-selection-is : (g : given.Over) (c : At-loop-end g) → selection_of g.M.TotalOrder.before g.M.Measure.none g.M.Measure.join c.args.task.now c.args.limit ≡ Some (chosen g c).0
-selection-is g c = ap (selected g.M.TotalOrder.before g.M.Measure.none g.M.Measure.join c.args.task.now c.args.limit) (sym (add-one (point_count c.args.task.now))) ∙ (chosen g c).1
+selection_is : (g : given.Over) (c : At-loop-end g) → selection_of g.M.TotalOrder.before g.M.Measure.none g.M.Measure.join c.args.task.now c.args.limit ≡ Some (chosen g c).0
+selection_is g c = ap (selected g.M.TotalOrder.before g.M.Measure.none g.M.Measure.join c.args.task.now c.args.limit) (sym (add-one (point_count c.args.task.now))) ∙ (chosen g c).1
 
 pub returns-in_default : goal.returns-in_default
 returns-in_default g c =
@@ -120,13 +120,13 @@ returns-in_default g c =
 pub ticks-requires : goal.ticks-requires
 ticks-requires g c =
     let at = (goal.at.ticks-requires g c).At-loop-end in
-    subst (Reached g.M.Measure.none g.M.Measure.join 63) (chosen g at).2 (whole.reached g.M.TotalOrder.before g.M.Measure.none g.M.Measure.join c.args.task.now c.args.limit g.M.TotalOrder.asym g.M.TotalOrder.chain (chosen g at).0 (selection-is g at))
+    subst (Reached g.M.Measure.none g.M.Measure.join 63) (chosen g at).2 (whole.reached g.M.TotalOrder.before g.M.Measure.none g.M.Measure.join c.args.task.now c.args.limit g.M.TotalOrder.asym g.M.TotalOrder.chain (chosen g at).0 (selection_is g at))
 
 pub overflow_add-result : goal.overflow_add-result
 overflow_add-result g c =
     let at = (goal.at.overflow_add-result g c).At-loop-end in
     let t = c.args.task.now in
-    let small = whole.costs-small g.M.TotalOrder.before g.M.Measure.none g.M.Measure.join t c.args.limit g.M.TotalOrder.asym g.M.TotalOrder.chain g.M.Measure.ticks g.met.M.Measure.nothing g.met.M.Measure.adds (chosen g at).0 (selection-is g at) in
+    let small = whole.costs_small g.M.TotalOrder.before g.M.Measure.none g.M.Measure.join t c.args.limit g.M.TotalOrder.asym g.M.TotalOrder.chain g.M.Measure.ticks g.met.M.Measure.nothing g.met.M.Measure.adds (chosen g at).0 (selection_is g at) in
     let all = c.block_count-blocks.ensures in
     omega (arith, small, ap g.M.Measure.ticks (chosen g at).2, c.ticks.ensures, c.running_costs-costs.ensures c.block_count-blocks.result (omega (arith, all)), running_small t c.block_count-blocks.result (omega (arith, all)), all, t.count)
 
@@ -141,7 +141,7 @@ returns g c =
     let asym = g.M.TotalOrder.asym in
     let chain = g.M.TotalOrder.chain in
     let s = (chosen g at).0 in
-    let is = selection-is g at in
+    let is = selection_is g at in
     let l = c.loop-end in
     let end : l.end ≡ 0 = omega (arith, c.loop-end-test.false) in
     let last = l.invariant.1 limit s (chosen g at).1 c.link-links.ensures.linked in

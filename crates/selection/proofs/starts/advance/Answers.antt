@@ -39,7 +39,7 @@ grown g c =
             size = omega (arith, ap size w.heap-is, more);
           }
       | in_default w ↦ record {
-        holds = subst (λ z. Holds before none join t limit (suc c.args.end) c.args.end (held z)) (sym w.heap-is) (steps.put-none before none join t limit g.M.TotalOrder.asym g.M.TotalOrder.chain c.args.end (held h) (sym c.requires.value ∙ w.in_default.is) c.requires.holds);
+        holds = subst (λ z. Holds before none join t limit (suc c.args.end) c.args.end (held z)) (sym w.heap-is) (steps.put_none before none join t limit g.M.TotalOrder.asym g.M.TotalOrder.chain c.args.end (held h) (sym c.requires.value ∙ w.in_default.is) c.requires.holds);
         good = subst (Good (sooner before)) (sym w.heap-is) c.requires.good;
         room = ap room w.heap-is;
         size = omega (arith, ap size w.heap-is);
@@ -47,7 +47,7 @@ grown g c =
     ]
 
 pub candidate-requires : goal.candidate-requires
-candidate-requires g c = record { start = c.requires.end; reached = steps.value-reached g.M.TotalOrder.before g.M.Measure.none g.M.Measure.join c.args.task.now c.args.limit g.M.TotalOrder.asym g.M.TotalOrder.chain c.args.end c.in-Some.v c.requires.end (sym c.requires.value ∙ c.in-Some.is) }
+candidate-requires g c = record { start = c.requires.end; reached = steps.value_reached g.M.TotalOrder.before g.M.Measure.none g.M.Measure.join c.args.task.now c.args.limit g.M.TotalOrder.asym g.M.TotalOrder.chain c.args.end c.in-Some.v c.requires.end (sym c.requires.value ∙ c.in-Some.is) }
 
 pub in_reach-requires : goal.in_reach-requires
 in_reach-requires g c =

@@ -1,19 +1,19 @@
 use Rattle.std.proofs.Common.{Some, Ok, sym, refl, ap, ◌∙◌, add_assoc, arith, rules}
 use Rattle.commands.specs.Commands.{moved, answered, answer, after}
 use Rattle.commands.proofs.Rows.{narrow, ranged}
-use Rattle.commands.proofs.Decoded.{at-end, at-unknown, at-short, at-range, at_command}
+use Rattle.commands.proofs.Decoded.{at_end, at_unknown, at_short, at_range, at_command}
 use Rattle.commands.proofs.reader.Reader.next.Goals as goal
 
 pub returns-then-at-self : goal.returns-then-at-self
 unfolding answer after
 returns-then-at-self c =
-    let e = at-end c.args.context _ _ c.if-at-self.true in
+    let e = at_end c.args.context _ _ c.if-at-self.true in
     record { same = refl; moved = sym (ap (moved _) e); told = sym (ap (answered _) e); forth = search rules }
 
 pub returns-in_default : goal.returns-in_default
 unfolding answer after
 returns-in_default c =
-    let e = at-unknown _ _ _ c.if-at-self.false (sym c.in_default.ensures) in
+    let e = at_unknown _ _ _ c.if-at-self.false (sym c.in_default.ensures) in
     record { same = refl; moved = sym (ap (moved _) e); told = sym (ap (answered _) e); forth = search rules }
 
 pub width-width-requires : goal.width-width-requires
@@ -22,7 +22,7 @@ width-width-requires c = narrow _ _ _ (sym c.in-Some.ensures)
 pub returns-then-rest-width : goal.returns-then-rest-width
 unfolding answer after
 returns-then-rest-width c =
-    let e = at-short _ _ _ c.if-at-self.false _ (sym c.in-Some.ensures) _ c.width-width.ensures c.if-rest-width.true in
+    let e = at_short _ _ _ c.if-at-self.false _ (sym c.in-Some.ensures) _ c.width-width.ensures c.if-rest-width.true in
     record { same = refl; moved = sym (ap (moved _) e); told = sym (ap (answered _) e); forth = search rules }
 
 pub numbers-numbers-requires : goal.numbers-numbers-requires
@@ -31,7 +31,7 @@ numbers-numbers-requires c = (narrow _ _ _ (sym c.in-Some.ensures), omega (arith
 pub returns-then-not-holds : goal.returns-then-not-holds
 unfolding answer after
 returns-then-not-holds c =
-    let e = at-range _ _ _ c.if-at-self.false _ (sym c.in-Some.ensures) _ c.width-width.ensures c.if-rest-width.false _ c.numbers-numbers.ensures (sym c.if-not-holds.ensures) in
+    let e = at_range _ _ _ c.if-at-self.false _ (sym c.in-Some.ensures) _ c.width-width.ensures c.if-rest-width.false _ c.numbers-numbers.ensures (sym c.if-not-holds.ensures) in
     record { same = refl; moved = sym (ap (moved _) e); told = sym (ap (answered _) e); forth = search rules }
 
 pub returns : goal.returns

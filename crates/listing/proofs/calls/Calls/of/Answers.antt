@@ -1,7 +1,7 @@
 use Rattle.std.proofs.Common.{◌<◌, ◌≤◌, length, Ok, sym, refl, ap, ◌∙◌, arith, rules}
 use Rattle.commands.specs.declared.table.Context.TheVariants.{Body}
 use Rattle.commands.specs.Commands.{answer, after}
-use Rattle.commands.proofs.Decoded.{read-there}
+use Rattle.commands.proofs.Decoded.{read_there}
 use Rattle.listing.proofs.Noted.{noting, noted_fault, noted_none, noted_all, note_other, note_call}
 use Rattle.listing.proofs.calls.Calls.of.Goals as goal
 
@@ -20,7 +20,7 @@ pub commands-preserved-in-Call : goal.commands-preserved-in-Call
 commands-preserved-in-Call c =
     let n = c.in-Ok.ensures in
     let bs = c.commands.invariant.0 in
-    let e = read-there _ _ c.args.bytes.now _ _ _ _ n.told bs c.in-Some.is in
+    let e = read_there _ _ c.args.bytes.now _ _ _ _ n.told bs c.in-Some.is in
     let on = n.moved ∙ ap (λ b. after Body b c.commands.reader.at) bs in
     let long = ap length bs in
     let forth : (c.commands.reader.at < c.next-in-commands.new.self.at) × (c.next-in-commands.new.self.at ≤ length c.commands.reader.bytes.now) = search rules in
@@ -31,14 +31,14 @@ pub returns-in-EndRoutine : goal.returns-in-EndRoutine
 returns-in-EndRoutine c =
     let n = c.in-Ok.ensures in
     let bs = c.commands.invariant.0 in
-    let e = read-there _ _ c.args.bytes.now _ _ _ _ n.told bs c.in-Some.is in
+    let e = read_there _ _ c.args.bytes.now _ _ _ _ n.told bs c.in-Some.is in
     noted_all _ _ _ _ _ c.commands.invariant.1 _ _ e c.in-EndRoutine.is
 
 pub commands-preserved : goal.commands-preserved
 commands-preserved c =
     let n = c.in-Ok.ensures in
     let bs = c.commands.invariant.0 in
-    let e = read-there _ _ c.args.bytes.now _ _ _ _ n.told bs c.in-Some.is in
+    let e = read_there _ _ c.args.bytes.now _ _ _ _ n.told bs c.in-Some.is in
     let on = n.moved ∙ ap (λ b. after Body b c.commands.reader.at) bs in
     let long = ap length bs in
     let forth : (c.commands.reader.at < c.next-in-commands.new.self.at) × (c.next-in-commands.new.self.at ≤ length c.commands.reader.bytes.now) = search rules in

@@ -6,7 +6,7 @@ use Rattle.std.proofs.lemmas.Bool.{cases_lt}
 use Rattle.std.proofs.lemmas.Bool.Decides.{nat_tests}
 use Rattle.tasks.specs.Choices.{told, rising}
 use Rattle.tasks.specs.Tasks.{point_count}
-use Rattle.tasks.proofs.Words.{trailing_low, trailing_set, has_le, cleared_at, cleared_else, rising-first, rising_none, told-short}
+use Rattle.tasks.proofs.Words.{trailing_low, trailing_set, has_le, cleared_at, cleared_else, rising_first, rising_none, told_short}
 use Rattle.tasks.proofs.model.Task.chosen.Goals as goal
 
 module _ (c : goal.Else-is_err) where
@@ -22,7 +22,7 @@ module _ (c : goal.Else-is_err) where
 
   -- the lowest bit lies below the number of points
   within : at < point_count c.args.self.now
-  within = ⊎_elim (λ h. h) (λ h. absurd (never (told-short c.loop-rest.rest _ small at h) set)) (cases_lt at (point_count c.args.self.now))
+  within = ⊎_elim (λ h. h) (λ h. absurd (never (told_short c.loop-rest.rest _ small at h) set)) (cases_lt at (point_count c.args.self.now))
     where
       never : told c.loop-rest.rest at ≡ false → told c.loop-rest.rest at ≡ true → ⊥
       never p q = grind arith
@@ -43,7 +43,7 @@ loop-rest-preserved c =
     let bit : (1 * 2 ^ i) % 2 ^ 64 ≡ 2 ^ i = one_bit c in
     let put : vec_items c.push.new.self ≡ vec_items l.list ++ (i + 1) ∷ [] = c.push.ensures.items ∙ ap (λ b. cond b (vec_items l.list ++ (i + 1) ∷ []) (vec_items l.list)) c.if-is_err.ensures.negation in
     let first : rising (told l.rest) (point_count t) ≡ (i + 1) ∷ rising (told (l.rest - 2 ^ i)) (point_count t) =
-    rising-first (told l.rest) (told (l.rest - 2 ^ i)) i (point_count t) (within c) (trailing_low 64 l.rest) (set c) (cleared_at l.rest i (set c)) (cleared_else l.rest i (set c)) ∙ ap (λ n. n ∷ rising (told (l.rest - 2 ^ i)) (point_count t)) (sym (add-one i)) in (
+    rising_first (told l.rest) (told (l.rest - 2 ^ i)) i (point_count t) (within c) (trailing_low 64 l.rest) (set c) (cleared_at l.rest i (set c)) (cleared_else l.rest i (set c)) ∙ ap (λ n. n ∷ rising (told (l.rest - 2 ^ i)) (point_count t)) (sym (add-one i)) in (
       ap₂ (λ xs b. xs ++ rising (told (l.rest - b)) (point_count t)) put bit ∙ append_assoc (vec_items l.list) ((i + 1) ∷ []) _ ∙ ap (λ r. vec_items l.list ++ r) (sym first) ∙ l.invariant.0,
       omega (arith, bit, l.invariant.1),
     )
@@ -52,5 +52,5 @@ pub returns : goal.returns
 returns c =
     let h = c.if-not-admits.ensures in
     let l = c.loop-rest in
-    let none = rising_none (told l.rest) (point_count c.args.self.now) (λ i h. ap (λ w. told w i) c.loop-rest-test.false ∙ told-short 0 0 (omega arith) i (omega arith)) in
+    let none = rising_none (told l.rest) (point_count c.args.self.now) (λ i h. ap (λ w. told w i) c.loop-rest-test.false ∙ told_short 0 0 (omega arith) i (omega arith)) in
     (sym h, sym (append-nil _) ∙ ap (λ r. vec_items l.list ++ r) (sym none) ∙ l.invariant.0)

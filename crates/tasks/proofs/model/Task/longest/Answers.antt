@@ -2,7 +2,7 @@ use Rattle.std.proofs.Common.{◌≡◌, sym, ap, ◌∙◌, arith}
 use Rattle.tasks.specs.Choices.{told, stretches, greatest}
 use Rattle.tasks.specs.Tasks.{cost_of_block, point_at, point_count, longest_of}
 use Rattle.tasks.proofs.Answering.{answered}
-use Rattle.tasks.proofs.Walks.{begun, gone-on}
+use Rattle.tasks.proofs.Walks.{begun, gone_on}
 use Rattle.tasks.proofs.model.Task.longest.Goals as goal
 use Rattle.tasks.proofs.model.Task.longest.Goals.{then-is_chosen, else-is_chosen}
 
@@ -17,7 +17,7 @@ loop-i-preserved c =
         omega (arith, w.length-is, w.ticks_at-length.ensures.bound, cost.bound, l.invariant.1),
       )
       | else-is_chosen w ↦ (
-        λ more. omega (arith, gone-on (cost_of_block t) (point_at t) (told c.args.word) l.i l.longest l.length l.invariant.0 (sym w.if-is_chosen.ensures) more, w.longest-is, w.length-is, cost.value),
+        λ more. omega (arith, gone_on (cost_of_block t) (point_at t) (told c.args.word) l.i l.longest l.length l.invariant.0 (sym w.if-is_chosen.ensures) more, w.longest-is, w.length-is, cost.value),
         omega (arith, w.length-is, cost.bound, l.invariant.1),
       )
     ]
