@@ -19,8 +19,10 @@ use Rattle.listing.specs.Costing.{Capped}
 use Rattle.listing.specs.Costing.{call_lists, block_lists, unknown_in, table_of, reach_table, cycle_from, dear_from, cost_in, calls_in, unless, judged, judged_after, costing}
 use Rattle.listing.specs.declared.cost.Costs.{Costs}
 use Rattle.listing.specs.Costed.{cost_told, costs_of}
-use Rattle.listing.specs.Reach.{CycleTold}
-use Rattle.listing.proofs.Reached.{cycles_told}
+use Rattle.listing.specs.Reach.{CycleTold, OnlyTold}
+use Rattle.listing.specs.Places.{PlaceTold}
+use Rattle.listing.proofs.Reached.{cycles_told, only_told}
+use Rattle.listing.proofs.Placed.{places_told}
 use Rattle.listing.proofs.Judged.{listing_parts, calls_same, unknown_append, block_unknown, blocks_known, cycle_same, dear_same, costs_are}
 
 fault_by : (f : ReadFault) (r : Result Listing ReadFault) → Err f ≡ outline_of r → Err (Read f) ≡ costs_of (judged_after r)
@@ -31,9 +33,9 @@ pub read_fault : (bs : List ℕ) (f : ReadFault) → Err f ≡ outline_of (listi
 unfolding costing
 read_fault bs f e = fault_by f (listing bs) e
 
--- the two promises of costing
+-- the promises of costing
 abbrev CostBoth : List ℕ → Result Costs CostFault → Type 0
-CostBoth bs r = (cost_told r ≡ costs_of (costing bs)) × CycleTold bs r
+CostBoth bs r = (cost_told r ≡ costs_of (costing bs)) × CycleTold bs r × PlaceTold bs r × OnlyTold bs r
 
 -- the listing of an outline
 pub record Outlined (bs : List ℕ) (o : Outline) : Type 0 where
@@ -72,7 +74,7 @@ module _ (bs : List ℕ) (o : Outline) (x : Outlined bs o) where
       omega (arith, l, length-take o.routines.count o.routines.heads, o.routines.few)
 
   pub both : (r : Result Costs CostFault) → cost_told r ≡ costs_of (costing bs) → CostBoth bs r
-  both r e = (e, cycles_told bs x.it x.is few r e)
+  both r e = let t = cycles_told bs x.it x.is few r e in (e, t, places_told bs x.it x.is r e, only_told bs x.it x.is few r t)
 
   whole : costs_of (costing bs) ≡ costs_of (judged x.it)
   unfolding costing

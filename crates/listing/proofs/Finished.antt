@@ -29,6 +29,10 @@ use Rattle.reading.proofs.Encoded.{accepted}
 use Rattle.reading.proofs.Fitted.{read_fits}
 use Rattle.reading.proofs.Stepped.{nothing}
 use Rattle.listing.proofs.Judged.{listing_parts, small_blocks, none_dear}
+use Rattle.listing.proofs.Standing.{Headed, blocks_stand, cond_has, self_has}
+use Rattle.listing.specs.Places.{Stands, LoadPlaceTold}
+use Rattle.commands.specs.declared.table.Command.TheVariants as command
+use Rattle.commands.specs.declared.table.Context.TheVariants.{BlockDue}
 
 clash : {X Y F : Type 0} {x : X} {f : F} → ◌≡◌ {A = Result X F} (Err f) (Ok x) → Y
 clash e = let z : ◌≡◌ {A = ℕ} 0 1 = cc in absurd (omega arith)
@@ -121,6 +125,25 @@ same_tasks bs of by (x ∷ xs) (t ∷ ts) same all a =
       same_tasks bs of by xs ts same all.1 a.1,
     )
 
+-- the first marked block stands where it is told
+first_stands : (bs : List ℕ) (marks : List Bool) (hs : List Head) (h : Head) → AllByRecursion (Headed BlockDue command.Block bs) hs → first_marked marks hs ≡ Some h → Headed BlockDue command.Block bs h
+first_stands bs marks [] h all e = nothing e
+first_stands bs marks (x ∷ xs) h all e = cond_has (Headed BlockDue command.Block bs) (get_or marks x.code false) (Some x) (first_marked marks xs) h (self_has (Headed BlockDue command.Block bs) x h all.0) (first_stands bs marks xs h all.1) e
+
+next_stands : (bs : List ℕ) (t : Head) (o : Option Head) (r : Option (Head × Head)) (y : Head × Head) → ((h : Head) → o ≡ Some h → Headed BlockDue command.Block bs h) → (r ≡ Some y → Headed BlockDue command.Block bs y.1) → or_next t o r ≡ Some y → Headed BlockDue command.Block bs y.1
+next_stands bs t (Some h) r y f g e = let same : (t, h) ≡ y = cc in subst (λ (z : Head × Head). Headed BlockDue command.Block bs z.1) same (f h refl)
+next_stands bs t None r y f g e = g e
+
+marked_stands : (bs : List ℕ) (marks : List Bool) (ts : List Task) (y : Head × Head) → AllByRecursion (TaskRead bs) ts → marked_in marks ts ≡ Some y → Headed BlockDue command.Block bs y.1
+marked_stands bs marks [] y all e = nothing e
+marked_stands bs marks (t ∷ ts) y all e =
+    next_stands bs (task_head t) (first_marked marks (block_heads t.blocks)) (marked_in marks ts) y (λ h q. first_stands bs marks (block_heads t.blocks) h (blocks_stand (suc (length bs)) bs 0 _ (t.blocks, all.0.end) all.0.blocks_are) q) (λ q. marked_stands bs marks ts y all.1 q) e
+
+-- tasks, or want of memory, tell no place
+pub no_place : {Z : Type 0} (bs : List ℕ) (of : ℕ → ℕ) (ts : List Task) (r : Result (Vec HeldTask Z) LoadFault) → TasksTold of ts r → LoadPlaceTold bs r
+no_place bs of ts (Ok v) t = tt
+no_place {Z} bs of ts (Err f) t = subst (λ (g : LoadFault). LoadPlaceTold {Z = Z} bs (Err g)) (sym t) tt
+
 module _ (bs : List ℕ) (k : Costs) (x : Costed bs k) where
   of : ℕ → ℕ
   of = cost_in x.it.routines 32
@@ -159,6 +182,9 @@ module _ (bs : List ℕ) (k : Costs) (x : Costed bs k) where
 
     pub free_told : (y : Head × Head) → ((ts : List Task) → held k.outline.tasks ≡ map task_head ts → AllByRecursion (TaskRead bs) ts → Some y ≡ marked_in marks ts) → loading bs ≡ Err (FreeBlock y.1.at y.0.code)
     free_told y e = whole ∙ ap (λ o. unless_free o x.it) (sym (e x.it.tasks x.tasks_are tasks_read))
+
+    pub free_place : (y : Head × Head) → ((ts : List Task) → held k.outline.tasks ≡ map task_head ts → AllByRecursion (TaskRead bs) ts → Some y ≡ marked_in marks ts) → (n : ℕ) × Stands bs (command.Block n) y.1.at
+    free_place y e = (y.1.code, (BlockDue, marked_stands bs marks x.it.tasks y tasks_read (sym (e x.it.tasks x.tasks_are tasks_read))))
 
     module _ (none : (ts : List Task) → held k.outline.tasks ≡ map task_head ts → AllByRecursion (TaskRead bs) ts → None ≡ marked_in marks ts) where
       none_free : marked_in marks x.it.tasks ≡ None

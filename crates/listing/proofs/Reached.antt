@@ -1,8 +1,8 @@
 -- The table of reached codes is the relation, and where no routine calls itself every cost is settled. Assumes nothing.
-use Rattle.std.proofs.Common.{◌≡◌, ℕ, zero, suc, ◌+◌, ◌*◌, ◌<◌, ◌≤◌, max, Bool, true, false, cond, ◌&&◌, eqb, ◌⊎◌, List, [], ◌∷◌, ◌++◌, map, length, get_or, Some, None, Ok, Err, Option, Result, sym, refl, ap, ◌∙◌, inl, inr, ⊎_elim, add-zero, zero-add, arith, eq-eqb, ne_eqb}
+use Rattle.std.proofs.Common.{◌≡◌, ℕ, zero, suc, ◌+◌, ◌*◌, ◌<◌, ◌≤◌, max, Bool, true, false, cond, ◌&&◌, eqb, ◌⊎◌, List, [], ◌∷◌, ◌++◌, map, length, get_or, Some, None, Ok, Err, Option, Result, sym, refl, ap, ◌∙◌, subst, inl, inr, ⊎_elim, add-zero, zero-add, arith, eq-eqb, ne_eqb}
 use borrow.Author.Tests.{both_ways}
 use Rattle.std.proofs.lemmas.List.{length-map}
-use Rattle.std.proofs.lemmas.Bool.{cases_Bool, cond-true, cond-false, cases_eq, cases_lt, or_cases, or_left, or_right, and_parts, and_from}
+use Rattle.std.proofs.lemmas.Bool.{cases_Bool, cond-true, cond-false, cases_eq, cases_lt, or_cases, or_left, or_right, and_parts, and_from, false_from_ne_true}
 use Rattle.faults.specs.declared.fault.CostFault.{CostFault}
 use Rattle.faults.specs.declared.fault.CostFault.TheVariants.{Read, Unknown, Cycle, TooDear}
 use Rattle.reading.specs.declared.heads.Head.{Head}
@@ -13,7 +13,7 @@ use Rattle.reading.specs.Listings.{listing, routine_head}
 use Rattle.listing.specs.Cycles.{Table, closed}
 use Rattle.listing.specs.Costing.{call_lists, table_of, reach_table, cycle_from, dear_from, cost_by, cost_in, unless, judged_after, costing}
 use Rattle.listing.specs.Costed.{cost_told, costs_of}
-use Rattle.listing.specs.Reach.{code_of, Reaches, calls, through as via, Cyclic, TrueCosts, FirstCycle, CostedAll, CycleTold}
+use Rattle.listing.specs.Reach.{code_of, Reaches, calls, through as via, Cyclic, TrueCosts, FirstCycle, CostedAll, CycleTold, OnlyTold}
 use Rattle.reading.proofs.Stepped.{nothing}
 
 module _ (t : Table) (code : ℕ → ℕ) where
@@ -227,24 +227,45 @@ module _ (rs : List Routine) (acyclic : (i : ℕ) → i < length rs → reach_ta
       let less = count_lt (λ m. reach_table rs i (code_of rs m)) (λ _. true) (length rs) i (λ m l x. refl) h (acyclic i h) refl in
       omega (arith, count_all (length rs))
 
-  settles : (k c : ℕ) → ((g : Gives rs c) → rank g.index < k) → cost_in rs k c ≡ cost_in rs (suc k) c
-  unfolding cost_in
-  settles zero c h = ⊎_elim (λ z. sym (z (cost_in rs 0))) (λ g. absurd (omega (arith, h g))) (gives rs c)
-  settles (suc k) c h =
+  -- costs by passes, from costs at which a code that no routine has costs nothing
+  record ByPasses (a : ℕ → ℕ → ℕ) : Type 0 where
+    first : (c : ℕ) → ((of : ℕ → ℕ) → cost_by of rs c ≡ 0) → a 0 c ≡ 0
+    more : (k c : ℕ) → a (suc k) c ≡ cost_by (a k) rs c
+
+  -- wherever passes begin, they agree on a routine after more of them than its rank
+  agree : (a b : ℕ → ℕ → ℕ) → ByPasses a → ByPasses b → (k c : ℕ) → ((g : Gives rs c) → rank g.index < k) → a k c ≡ b k c
+  agree a b x y zero c h = ⊎_elim (λ z. x.first c z ∙ sym (y.first c z)) (λ g. absurd (omega (arith, h g))) (gives rs c)
+  agree a b x y (suc k) c h =
       ⊎_elim
-      (λ z. z (cost_in rs k) ∙ sym (z (cost_in rs (suc k))))
+      (λ z. x.more k c ∙ z (a k) ∙ sym (y.more k c ∙ z (b k)))
       (λ (g : Gives rs c).
-      g.cost_is (cost_in rs k)
-      ∙ same_run (cost_in rs k) (cost_in rs (suc k)) g.body
-      (λ d e. settles k d (λ (f : Gives rs d).
+      x.more k c
+      ∙ g.cost_is (a k)
+      ∙ same_run (a k) (b k) g.body
+      (λ d e. agree a b x y k d (λ (f : Gives rs d).
       let made : table_of (call_lists rs) g.index (code_of rs f.index) ≡ true = ap (λ l. used (code_of rs f.index) l) g.calls_are ∙ ap (λ n. used n (calls_run g.body)) f.code_is ∙ e in
       omega (arith, h g, falls g.index f.index g.inside f.inside made)))
-      ∙ sym (g.cost_is (cost_in rs (suc k))))
+      ∙ sym (y.more k c ∙ g.cost_is (b k)))
       (gives rs c)
 
-  pub true_costs : length rs ≤ 32 → TrueCosts rs (cost_in rs 32)
+  passes : ByPasses (cost_in rs)
   unfolding cost_in
-  true_costs few c = settles 32 c (λ (g : Gives rs c). omega (arith, low g.index g.inside))
+  passes = record { first = λ c z. refl; more = λ k c. refl }
+
+  later : ByPasses (λ k. cost_in rs (suc k))
+  unfolding cost_in
+  later = record { first = λ c z. z (cost_in rs 0); more = λ k c. refl }
+
+  module _ (few : length rs ≤ 32) where
+    low_32 : (c : ℕ) (g : Gives rs c) → rank g.index < 32
+    low_32 c g = omega (arith, low g.index g.inside)
+
+    pub true_costs : TrueCosts rs (cost_in rs 32)
+    unfolding cost_in
+    true_costs c = agree (cost_in rs) (λ k. cost_in rs (suc k)) passes later 32 c (low_32 c)
+
+    pub only_costs : (of : ℕ → ℕ) → TrueCosts rs of → (c : ℕ) → of c ≡ cost_in rs 32 c
+    only_costs of e c = agree (λ k. of) (cost_in rs) (record { first = λ d z. e d ∙ z of; more = λ k d. e d }) passes 32 c (low_32 c)
 
 -- what costing tells of cycles
 clash : {X Y F : Type 0} {x : X} {f : F} → ◌≡◌ {A = Result X F} (Err f) (Ok x) → Y
@@ -306,3 +327,12 @@ module _ (bs : List ℕ) (l : Listing) (is : listing bs ≡ Ok l) (few : length 
   pub cycles_told : (r : Result Costs CostFault) → cost_told r ≡ costs_of (costing bs) → CycleTold bs r
   unfolding rs costing
   cycles_told r e = by_unknown _ r (e ∙ ap (λ x. costs_of (judged_after x)) is)
+
+  -- where costs are told, no other costs are true
+  pub only_told : (r : Result Costs CostFault) → CycleTold bs r → OnlyTold bs r
+  unfolding rs
+  only_told (Ok k) t =
+      let same : t.0 ≡ l = let e = sym t.1 ∙ is in cc in
+      let all = subst (λ (m : Listing). CostedAll m.routines) same t.2 in
+      (l, is, only_costs rs (λ i h. false_from_ne_true _ (λ e. all.acyclic i h (is_cyclic rs i e))) few)
+  only_told (Err f) t = tt

@@ -5,4 +5,5 @@ pub mod Costing
 pub mod Costed
 pub mod Loading
 pub mod Reach
+pub mod Places
 pub mod Worked

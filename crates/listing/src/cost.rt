@@ -13,7 +13,8 @@ ghost use Rattle.listing.specs.Calls.{calls_at};
 ghost use Rattle.listing.specs.Cycles.{entry, Tabled, Wide};
 ghost use Rattle.listing.specs.Costing.{table_of, unknown_in, cycle_from, dear_from, cost_by, cost_in, calls_in, TableTold, costing};
 ghost use Rattle.listing.specs.Costed.{cost_told, costs_of};
-ghost use Rattle.listing.specs.Reach.{CycleTold};
+ghost use Rattle.listing.specs.Reach.{CycleTold, OnlyTold};
+ghost use Rattle.listing.specs.Places.{PlaceTold};
 ghost use Rattle.listing.specs.Worked.{Worked};
 
 use crate::blocks::{marked_block, unlisted};
@@ -120,6 +121,8 @@ pub struct Costs {
 pub fn cost(bytes: &[u8]) -> Result<Costs, CostFault>
     ensures told { cost_told result ≡ costs_of (costing bytes.now) }
     ensures cycles { CycleTold bytes.now result }
+    ensures places { PlaceTold bytes.now result }
+    ensures only { OnlyTold bytes.now result }
 {
     let outline = read(bytes)?;
     let calls = match call_table(bytes, &outline.routines) {

@@ -1,6 +1,7 @@
 // Loading: the tasks of a listing, each block at its routine's cost.
 ghost use Rattle.std.specs.Prelude.{◌≡◌, ℕ, suc, ◌+◌, ◌<◌, ◌≤◌, List, map, length, Ok, nat_eq};
 ghost use Rattle.reading.specs.Listings.{blocks_from, task_head};
+ghost use Rattle.listing.specs.Places.{LoadPlaceTold};
 ghost use Rattle.listing.specs.Loading.{Priced, BodyTold, TaskTold, TasksTold, LoadTold};
 ghost use Rattle.std.specs.List.{AllByRecursion};
 ghost use Rattle.reading.specs.Bodies.{TaskRead};
@@ -103,7 +104,8 @@ fn load_tasks(
 
 // Loads a listing: its tasks in order, each block at its routine's cost; or the first fault, or want of memory.
 pub fn load(heap: Global, bytes: &[u8]) -> Result<Vec<Task>, LoadFault>
-    ensures { LoadTold bytes.now result }
+    ensures told { LoadTold bytes.now result }
+    ensures places { LoadPlaceTold bytes.now result }
 {
     let costs = cost(bytes)?;
     let by_code = costs.by_code;
