@@ -16,7 +16,7 @@ pub struct Full;
 
 // A priority queue over lent slots that gives a least item first. The items stand in the first `len` slots.
 //
-// A struct that holds a `&mut` cannot have a ghost field, so each method asks for the invariant `Good` and gives it back.
+// The type does not carry the invariant `Good`: each method asks for it and gives it back.
 #[derive(Drop)]
 pub struct Heap<'a, T> {
     slots: &'a mut [T],

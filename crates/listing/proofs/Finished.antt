@@ -21,10 +21,10 @@ use Rattle.reading.specs.Listings.{listing, routine_head, task_head}
 use Rattle.listing.specs.Marks.{first_marked, marked_in, or_next}
 use Rattle.listing.specs.Costing.{call_lists, block_lists, unknown_in, reach_table, cycle_from, dear_from, cost_in, unless, judged_after, costing}
 use Rattle.listing.specs.Costed.{costs_of}
-use Rattle.listing.specs.Loading.{Is, Are, Priced, free_marks, unless_free, loaded_after, loading, TasksTold, LoadTold}
+use Rattle.listing.specs.Loading.{Is, Are, Priced, free_marks, unless_free, loaded_after, loading, TasksTold, LoadTold, LoadOnlyTold}
 use Rattle.std.proofs.ByRecursion.{All-from_get_or}
 use Rattle.reading.specs.Encoding.{encode}
-use Rattle.listing.specs.Reach.{TrueCosts, CycleTold}
+use Rattle.listing.specs.Reach.{TrueCosts, CostedAll, CycleTold, OnlyTold}
 use Rattle.reading.proofs.Encoded.{accepted}
 use Rattle.reading.proofs.Fitted.{read_fits}
 use Rattle.reading.proofs.Stepped.{nothing}
@@ -143,6 +143,12 @@ marked_stands bs marks (t ∷ ts) y all e =
 pub no_place : {Z : Type 0} (bs : List ℕ) (of : ℕ → ℕ) (ts : List Task) (r : Result (Vec HeldTask Z) LoadFault) → TasksTold of ts r → LoadPlaceTold bs r
 no_place bs of ts (Ok v) t = tt
 no_place {Z} bs of ts (Err f) t = subst (λ (g : LoadFault). LoadPlaceTold {Z = Z} bs (Err g)) (sym t) tt
+
+pub only_loaded : {Z : Type 0} (bs : List ℕ) (k : Costs) → CycleTold bs (Ok k) → OnlyTold bs (Ok k) → (r : Result (Vec HeldTask Z) LoadFault) → LoadOnlyTold bs r
+only_loaded bs k c o (Ok v) =
+    let same : c.0 ≡ o.0 = let e = sym c.1 ∙ o.1 in cc in
+    (o.0, o.1, subst (λ (m : Listing). CostedAll m.routines) same c.2, o.2)
+only_loaded bs k c o (Err f) = tt
 
 module _ (bs : List ℕ) (k : Costs) (x : Costed bs k) where
   of : ℕ → ℕ

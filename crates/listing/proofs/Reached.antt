@@ -13,7 +13,7 @@ use Rattle.reading.specs.Listings.{listing, routine_head}
 use Rattle.listing.specs.Cycles.{Table, closed}
 use Rattle.listing.specs.Costing.{call_lists, table_of, reach_table, cycle_from, dear_from, cost_by, cost_in, unless, judged_after, costing}
 use Rattle.listing.specs.Costed.{cost_told, costs_of}
-use Rattle.listing.specs.Reach.{code_of, Reaches, calls, through as via, Cyclic, TrueCosts, FirstCycle, CostedAll, CycleTold, OnlyTold}
+use Rattle.listing.specs.Reach.{code_of, Reaches, calls, through as via, Cyclic, TrueCosts, FirstCycle, CostedAll, CycleTold, OnlyCosts, OnlyTold}
 use Rattle.reading.proofs.Stepped.{nothing}
 
 module _ (t : Table) (code : ℕ → ℕ) where
@@ -328,11 +328,17 @@ module _ (bs : List ℕ) (l : Listing) (is : listing bs ≡ Ok l) (few : length 
   unfolding rs costing
   cycles_told r e = by_unknown _ r (e ∙ ap (λ x. costs_of (judged_after x)) is)
 
-  -- where costs are told, no other costs are true
-  pub only_told : (r : Result Costs CostFault) → CycleTold bs r → OnlyTold bs r
+  -- where no routine calls itself, no other costs are true
+  only_true : (m : Listing) × (listing bs ≡ Ok m) × CostedAll m.routines → (m : Listing) × (listing bs ≡ Ok m) × OnlyCosts m.routines
   unfolding rs
-  only_told (Ok k) t =
+  only_true t =
       let same : t.0 ≡ l = let e = sym t.1 ∙ is in cc in
       let all = subst (λ (m : Listing). CostedAll m.routines) same t.2 in
       (l, is, only_costs rs (λ i h. false_from_ne_true _ (λ e. all.acyclic i h (is_cyclic rs i e))) few)
-  only_told (Err f) t = tt
+
+  pub only_told : (r : Result Costs CostFault) → CycleTold bs r → OnlyTold bs r
+  only_told (Ok k) t = only_true t
+  only_told (Err (Read f)) t = tt
+  only_told (Err (Unknown at c)) t = tt
+  only_told (Err (Cycle at c)) t = tt
+  only_told (Err (TooDear at c)) t = only_true t

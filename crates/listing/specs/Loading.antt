@@ -15,7 +15,8 @@ use Rattle.listing.specs.Marks.{marked_in}
 use Rattle.listing.specs.Costing.{cost_in, costing}
 use Rattle.reading.specs.Encoding.{encode}
 use Rattle.reading.specs.Fitting.{Fits}
-use Rattle.listing.specs.Reach.{TrueCosts}
+use Rattle.reading.specs.Listings.{listing}
+use Rattle.listing.specs.Reach.{TrueCosts, CostedAll, OnlyCosts}
 
 -- the points between blocks: ticks and charge
 abbrev pub points_of : Blocks → List (ℕ × ℕ)
@@ -93,3 +94,8 @@ LoadTold bs (Ok v) = (l : Listing) × (loading bs ≡ Ok l) × Loaded bs l (vec_
 LoadTold bs (Err (Cost f)) = loading bs ≡ Err (Cost f)
 LoadTold bs (Err (FreeBlock at c)) = loading bs ≡ Err (FreeBlock at c)
 LoadTold bs (Err NoMemory) = (l : Listing) × (loading bs ≡ Ok l)
+
+-- where tasks are loaded, no routine calls itself, and the true costs are the only ones
+abbrev pub LoadOnlyTold : {Z : Type 0} → List ℕ → Result (Vec HeldTask Z) LoadFault → Type 0
+LoadOnlyTold bs (Ok v) = (l : Listing) × (listing bs ≡ Ok l) × CostedAll l.routines × OnlyCosts l.routines
+LoadOnlyTold bs (Err f) = Unit {0}

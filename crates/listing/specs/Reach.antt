@@ -51,7 +51,10 @@ CycleTold bs (Err (TooDear at c)) = (l : Listing) × (listing bs ≡ Ok l) × Co
 abbrev pub OnlyCosts : List Routine → Type 0
 OnlyCosts rs = (of : ℕ → ℕ) → TrueCosts rs of → (c : ℕ) → of c ≡ cost_in rs 32 c
 
--- what the public costing call tells of costs: those of the listing that was read are the only true ones
+-- what the public costing call tells of costs, where it has them: those of the listing that was read are the only true ones
 abbrev pub OnlyTold : List ℕ → Result Costs CostFault → Type 0
 OnlyTold bs (Ok k) = (l : Listing) × (listing bs ≡ Ok l) × OnlyCosts l.routines
-OnlyTold bs (Err f) = Unit {0}
+OnlyTold bs (Err (TooDear at c)) = (l : Listing) × (listing bs ≡ Ok l) × OnlyCosts l.routines
+OnlyTold bs (Err (Read f)) = Unit {0}
+OnlyTold bs (Err (Unknown at c)) = Unit {0}
+OnlyTold bs (Err (Cycle at c)) = Unit {0}

@@ -1,5 +1,5 @@
 // Walks through a task's blocks.
-ghost use Rattle.std.specs.Prelude.{◌≡◌, ℕ, ◌+◌, ◌<◌, ◌≤◌, not, List, map, length, IfSome, Ok, OnSome};
+ghost use Rattle.std.specs.Prelude.{◌≡◌, ℕ, ◌<◌, ◌≤◌, not, List, map, length, IfSome, Ok, OnSome};
 ghost use Rattle.commands.specs.declared.table.Context.TheVariants.{Tasks, BlockDue, AfterBlock};
 ghost use Rattle.commands.specs.Commands.{answer, after};
 ghost use Rattle.std.specs.List.{AllByRecursion};

@@ -1,6 +1,6 @@
 // The calls of routines: which are unknown, and which routines call themselves.
-ghost use Rattle.std.specs.Prelude.{◌≡◌, ℕ, ◌+◌, ◌<◌, ◌≤◌, true, false, [], ◌∷◌, length, slice_set};
-ghost use Rattle.reading.specs.Heads.{held, used};
+ghost use Rattle.std.specs.Prelude.{◌≡◌, ◌<◌, true, false, [], ◌∷◌, slice_set};
+ghost use Rattle.reading.specs.Heads.{held};
 ghost use Rattle.listing.specs.Calls.{calls_at, first_unknown, or_else, CallsTold};
 
 use commands::reader::Reader;

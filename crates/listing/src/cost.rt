@@ -1,7 +1,7 @@
 // Costing: unknown routines, cycles of calls, and what each routine costs.
-ghost use Rattle.std.specs.Prelude.{◌≡◌, ℕ, ◌+◌, ◌<◌, ◌≤◌, min, false, List, [], ◌∷◌, map, length, Some, None, Ok};
+ghost use Rattle.std.specs.Prelude.{◌≡◌, ◌<◌, min, false, List, map, Some, None, Ok};
 ghost use Rattle.std.specs.List.{AllByRecursion};
-ghost use Rattle.reading.specs.Heads.{held, used};
+ghost use Rattle.reading.specs.Heads.{held};
 ghost use Rattle.commands.specs.declared.table.Context.TheVariants.{Top};
 ghost use Rattle.reading.specs.Bodies.{BodyRead};
 ghost use Rattle.listing.specs.Costing.{Capped};
@@ -9,9 +9,8 @@ ghost use Rattle.commands.specs.Commands.{after};
 ghost use Rattle.reading.specs.Listings.{routine_head};
 ghost use Rattle.reading.specs.Trees.{Routine, run_cost};
 ghost use Rattle.reading.specs.Runs.{Ended, cost_of_code, run_at};
-ghost use Rattle.listing.specs.Calls.{calls_at};
-ghost use Rattle.listing.specs.Cycles.{entry, Tabled, Wide};
-ghost use Rattle.listing.specs.Costing.{table_of, unknown_in, cycle_from, dear_from, cost_by, cost_in, calls_in, TableTold, costing};
+ghost use Rattle.listing.specs.Cycles.{entry};
+ghost use Rattle.listing.specs.Costing.{cycle_from, dear_from, cost_by, cost_in, calls_in, TableTold, costing};
 ghost use Rattle.listing.specs.Costed.{cost_told, costs_of};
 ghost use Rattle.listing.specs.Reach.{CycleTold, OnlyTold};
 ghost use Rattle.listing.specs.Places.{PlaceTold};

@@ -1,5 +1,5 @@
 // The codes that routines reach by calls, at once or through others.
-ghost use Rattle.std.specs.Prelude.{◌≡◌, ℕ, ◌+◌, ◌<◌, ◌≤◌, true, false, ◌&&◌, ◌||◌, [], ◌∷◌, length, slice_index_or};
+ghost use Rattle.std.specs.Prelude.{◌<◌, false, ◌||◌, length, slice_index_or};
 ghost use Rattle.reading.specs.Heads.{held};
 ghost use Rattle.listing.specs.Cycles.{entry, through, closed, code_at, Tabled, RowSays, Wide};
 

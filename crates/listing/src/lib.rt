@@ -7,3 +7,6 @@ pub mod cost;
 pub mod cycles;
 pub mod load;
 pub mod parts;
+
+pub use commands::{reader, table};
+pub use reading::{heads, outline, read, walk};

@@ -1,8 +1,8 @@
 // Loading: the tasks of a listing, each block at its routine's cost.
-ghost use Rattle.std.specs.Prelude.{◌≡◌, ℕ, suc, ◌+◌, ◌<◌, ◌≤◌, List, map, length, Ok, nat_eq};
+ghost use Rattle.std.specs.Prelude.{◌≡◌, ℕ, suc, ◌<◌, List, map, length, Ok, nat_eq};
 ghost use Rattle.reading.specs.Listings.{blocks_from, task_head};
 ghost use Rattle.listing.specs.Places.{LoadPlaceTold};
-ghost use Rattle.listing.specs.Loading.{Priced, BodyTold, TaskTold, TasksTold, LoadTold};
+ghost use Rattle.listing.specs.Loading.{Priced, BodyTold, TaskTold, TasksTold, LoadTold, LoadOnlyTold};
 ghost use Rattle.std.specs.List.{AllByRecursion};
 ghost use Rattle.reading.specs.Bodies.{TaskRead};
 ghost use Rattle.listing.specs.Cycles.{RowSays};
@@ -106,6 +106,7 @@ fn load_tasks(
 pub fn load(heap: Global, bytes: &[u8]) -> Result<Vec<Task>, LoadFault>
     ensures told { LoadTold bytes.now result }
     ensures places { LoadPlaceTold bytes.now result }
+    ensures only { LoadOnlyTold bytes.now result }
 {
     let costs = cost(bytes)?;
     let by_code = costs.by_code;

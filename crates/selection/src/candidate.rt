@@ -1,4 +1,4 @@
-ghost use Rattle.std.specs.Prelude.{◌≡◌, Some, refl, if◌then◌else◌};
+ghost use Rattle.std.specs.Prelude.{Some, refl, if◌then◌else◌};
 ghost use Rattle.std.specs.declared.cmp.Ordering.TheVariants.{Less, Equal, Greater};
 ghost use Rattle.selection.specs.Candidates.{sooner, sooner_asym, sooner_chain, sooner_compared};
 ghost use Rattle.std.specs.Cmp.Rules.{comparing};

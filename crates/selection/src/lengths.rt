@@ -1,4 +1,4 @@
-ghost use Rattle.std.specs.Prelude.{◌≡◌, ℕ, ◌+◌, ◌*◌, ◌≤◌, true, slice_index};
+ghost use Rattle.std.specs.Prelude.{◌≡◌, ℕ, ◌+◌, ◌≤◌, true, slice_index};
 ghost use Rattle.tasks.specs.Tasks.{cost_of_block, point_at, point_count};
 ghost use Rattle.selection.specs.Limits.{within};
 ghost use Rattle.selection.specs.Running.{cost_before, stretch_from};

@@ -1,8 +1,8 @@
 // The choice of a start for each block, by a heap of candidates.
-ghost use Rattle.std.specs.Prelude.{◌≡◌, ℕ, suc, ◌+◌, ◌<◌, ◌≤◌, true, length, slice_index};
+ghost use Rattle.std.specs.Prelude.{◌≡◌, ℕ, ◌+◌, ◌<◌, ◌≤◌, length, slice_index};
 ghost use Rattle.std.specs.List.{ContainsAt as Has};
 ghost use Rattle.heap.specs.Held.{size, room, held, Good};
-ghost use Rattle.tasks.specs.Tasks.{cost_of_block, point_at, point_count};
+ghost use Rattle.tasks.specs.Tasks.{cost_of_block, point_count};
 ghost use Rattle.measures.specs.Joins.{Reached};
 ghost use Rattle.selection.specs.declared.candidate.Candidate.{Candidate as CandidateOf};
 ghost use Rattle.selection.specs.Candidates.{sooner};

@@ -1,4 +1,4 @@
-ghost use Rattle.std.specs.Prelude.{◌≡◌, ◌+◌, ◌^◌, ◌<◌, ◌≤◌, true, length, is_ok, MatchResult, nat_lt};
+ghost use Rattle.std.specs.Prelude.{◌≡◌, ◌+◌, ◌^◌, ◌<◌, ◌≤◌, length, nat_lt};
 ghost use Rattle.tasks.specs.Choices.{told};
 ghost use Rattle.tasks.specs.Tasks.{point_count, cost_of_block, point_at, cost_of, longest_of, points_of};
 ghost use Rattle.tasks.specs.Under.{under, ListedUnder, StretchesUnder};

@@ -1,7 +1,7 @@
-ghost use Rattle.std.specs.Prelude.{◌≡◌, ◌+◌, ◌-◌, ◌<◌, ◌≤◌, ◌&&◌, length, is_ok, IfOk, IfErr, vec_len};
+ghost use Rattle.std.specs.Prelude.{◌≡◌, ◌+◌, ◌-◌, ◌<◌, ◌&&◌, is_ok, IfOk, IfErr, vec_len};
 ghost use Rattle.tasks.specs.Making.{Recosted};
-ghost use Rattle.tasks.specs.Ranges.{clock_fits, body_fits, cost_fits, costs_fit};
-ghost use Rattle.tasks.specs.Tasks.{point_count, cost_of_block, point_at};
+ghost use Rattle.tasks.specs.Ranges.{clock_fits, body_fits, costs_fit};
+ghost use Rattle.tasks.specs.Tasks.{point_count};
 ghost use Rattle.tasks.specs.declared.refusals.Refusal.TheVariants.{OutOfRange, NoSuch};
 
 use crate::blocks::{Block, BlockTable};
