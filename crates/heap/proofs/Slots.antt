@@ -1,6 +1,6 @@
 -- From what a sift says of the first slots to what the heap holds after it.
 -- xs is what the slots held at the call, of which n were in use; ys is what they hold as the sift begins; zs is what the sifted part holds after it.
-use Rattle.std.proofs.Common.{◌≡◌, ℕ, ◌+◌, ◌-◌, ◌<◌, ◌≤◌, Bool, List, [], ◌∷◌, ◌++◌, length, get_or, take, drop, set, Some, sym, refl, ap, ◌∙◌, subst, arith, length-set, length-take-le, get_or-set_other, get_or-take, get_or-set_same, drop-drop, take_at, drop-set-lt}
+use Rattle.std.proofs.Common.{◌≡◌, ℕ, ◌+◌, ◌-◌, ◌<◌, ◌≤◌, Bool, List, [], ◌∷◌, ◌++◌, length, get_or, take, drop, set, sym, refl, ap, ◌∙◌, subst, arith, length-set, length-take-le, get_or-set_other, get_or-take, get_or-set_same, drop-drop, take_at, drop-set-lt}
 use lib.Seq.{take-set-lt}
 use Rattle.std.specs.List.Sorted.{IsPermutation}
 use Rattle.std.proofs.lemmas.List.Edits.{swap_is}
@@ -8,16 +8,11 @@ use Rattle.std.proofs.lemmas.List.{take_more, take_more_set, drop_more}
 use Rattle.std.proofs.lemmas.Slice.{drop-append-drop}
 use Rattle.std.proofs.lemmas.List.Sorted.{IsPermutation-sym, IsPermutation-trans, IsPermutation-cons, IsPermutation-swap, IsPermutation-to_front, length_permutation}
 use Rattle.heap.specs.Heaps.{HeapedWithin, Heaped}
-use Rattle.heap.specs.Held.{first}
 
 -- a heap stays one where its items stay
 pub heaped_kept : {X : Type 0} (before : X → X → Bool) (xs ys : List X) (low end : ℕ) → end ≤ length xs → ((i : ℕ) (d : X) → low ≤ i → i < end → get_or ys i d ≡ get_or xs i d) → Heaped before xs → HeapedWithin before ys low end
 unfolding HeapedWithin
 heaped_kept before xs ys low end within same h = λ p k d l a b f. (λ z. before (same k d (omega arith) f z) (same p d l (omega arith) z)) ∙ h p k d (omega arith) a b (omega arith)
-
--- x stands in the first of the n slots in use
-pub top_is : {X : Type 0} (xs : List X) (n : ℕ) (x : X) → 0 < n → n ≤ length xs → x ≡ get_or xs 0 x → Some x ≡ first (take n xs)
-top_is xs n x some within e = let long = length-take-le n xs within in ap Some (e ∙ sym (get_or-take n xs 0 x some)) ∙ sym (ap first (drop_more (take n xs) 0 x (omega arith)))
 
 -- the first k slots are sifted
 module _ {X : Type 0} (ys zs : List X) (k n : ℕ) (e : k ≡ n) (within : n ≤ length ys) (s : IsPermutation (take k ys) zs) where
@@ -81,13 +76,6 @@ module _ {X : Type 0} (xs ys : List X) (n m : ℕ) (x : X) (one : n ≡ m + 1) (
       (IsPermutation-trans _ (x ∷ take m ys) (x ∷ zs)
       (subst (λ (l : List X). IsPermutation l (x ∷ take m ys)) (sym split) (IsPermutation-to_front (take m ys) x))
       (IsPermutation-cons x (take m ys) zs s))
-
-  pub pop_rest : drop m ys ≡ x ∷ drop n xs
-  pop_rest =
-      drop_more ys m x (omega (arith, long_swap))
-      ∙ (λ z. last z ∷ drop (sym one z) ys)
-      ∙ ap (λ l. x ∷ drop n l) swap
-      ∙ ap (λ l. x ∷ l) (drop-set-lt n (set xs 0 (get_or xs m x)) m (get_or xs 0 x) (omega arith) ∙ drop-set-lt n xs 0 (get_or xs m x) (omega arith))
 
 -- x is put in the place of the first item y
 module _ {X : Type 0} (xs : List X) (n : ℕ) (x y : X) (some : 0 < n) (within : n ≤ length xs) (first : y ≡ get_or xs 0 y) where

@@ -2,13 +2,21 @@
 use Rattle.std.proofs.Common.{◌≡◌, ℕ, zero, suc, ◌+◌, ◌-◌, ◌*◌, ◌/◌, ◌<◌, ◌≤◌, Bool, true, false, List, length, get_or, sym, refl, ap, ◌∙◌, subst, ⊎_elim, arith}
 use Rattle.std.proofs.Permutation.{which}
 use Rattle.std.proofs.ByRecursion.{All-from_get_or}
+use Rattle.std.specs.Prelude.{slice_get, Option, MatchOption, [], ◌∷◌}
+use Rattle.std.specs.List.{ContainsAt}
+use Rattle.std.specs.Cmp.{IsTotalOrder}
+use Rattle.std.specs.declared.cmp.Ordering.{Ordering}
 use Rattle.heap.specs.Heaps.{HeapedWithin, NoChildBefore, Heaped, Least}
+use Rattle.heap.specs.Orders.{before_by, before_asym, before_chain}
 
 -- ys is xs with the items at i and j exchanged
 abbrev pub Swapped : {X : Type 0} → List X → List X → ℕ → ℕ → Type 0
 Swapped {X} xs ys i j = ((d : X) → get_or ys i d ≡ get_or xs j d) × ((d : X) → get_or ys j d ≡ get_or xs i d) × ((k : ℕ) (d : X) → (k ≡ i → ⊥) → (k ≡ j → ⊥) → get_or ys k d ≡ get_or xs k d)
 
-module _ {X : Type 0} (before : X → X → Bool) where
+module _ {X : Type 0} (cmp : X → X → Ordering) where
+  abbrev before : X → X → Bool
+  before = before_by cmp
+
   -- at equal items
   along : {a b x y : X} → a ≡ x → b ≡ y → before y x ≡ false → before b a ≡ false
   along p q h = (λ k. before (q k) (p k)) ∙ h
@@ -51,7 +59,13 @@ module _ {X : Type 0} (before : X → X → Bool) where
   unfolding HeapedWithin
   sinking_ends xs j n l e h = subst (HeapedWithin before xs 0) (sym e) (λ p k d _ a b f. h.others p k d a b f (omega arith))
 
-  module _ (asym : (x y : X) → before x y ≡ true → before y x ≡ false) (chain : (x y z : X) → before x y ≡ false → before y z ≡ false → before x z ≡ false) where
+  module _ (total : IsTotalOrder cmp) where
+    asym : (x y : X) → before x y ≡ true → before y x ≡ false
+    asym = before_asym total
+
+    chain : (x y z : X) → before x y ≡ false → before y z ≡ false → before x z ≡ false
+    chain = before_chain total
+
     -- from c to its parent j, which it comes before
     pub rises : (xs ys : List X) (j c n : ℕ) → j * 2 + 1 ≤ c → c ≤ j * 2 + 2 → c < n → Swapped xs ys j c → ((d : X) → true ≡ before (get_or xs c d) (get_or xs j d)) → Rising xs c n → Rising ys j n
     rises xs ys j c n from to in' s t h = record {
@@ -119,3 +133,11 @@ module _ {X : Type 0} (before : X → X → Bool) where
 
     pub first_least : (xs : List X) (x : X) → x ≡ get_or xs 0 x → Heaped before xs → Least before x xs
     first_least xs x e h = All-from_get_or (λ y. before y x ≡ false) xs x (λ k b. along e refl (top xs (length xs) x h k k (omega arith) b))
+
+    -- what is said of the first item of a heap, where it has one
+    abbrev Firsts : List X → Option X → Type 0
+    Firsts xs r = MatchOption r (xs ≡ []) (λ x. ContainsAt xs x × Least before x xs)
+
+    pub first_of : (xs : List X) (r : Option X) → r ≡ slice_get xs 0 → Heaped before xs → Firsts xs r
+    first_of [] r e h = subst (Firsts []) (sym e) refl
+    first_of (x ∷ xs) r e h = subst (Firsts (x ∷ xs)) (sym e) ((0, omega arith, λ d. refl), first_least (x ∷ xs) x refl h)

@@ -1,32 +1,33 @@
 // A binary min-heap over a lent slice, for every item that has a total order.
 #![tactic(auto)]
 
-ghost use Rattle.std.specs.Prelude.{◌≡◌, [], length};
-ghost use Rattle.heap.specs.Held.{size, room, held, rest, Good};
+ghost use Rattle.std.specs.Prelude.{◌≤◌, length, take};
+ghost use Rattle.heap.specs.Heaps.{Heaped, HeapedWithin-prop};
+ghost use Rattle.heap.specs.Orders.{before_by};
 
-mod order;
 mod queue;
 mod sift;
-
-pub use order::TotalOrder;
 
 // Every slot of the heap is in use.
 #[derive(Clone, Copy, PartialEq, Eq, Debug)]
 pub struct Full;
 
 // A priority queue over lent slots that gives a least item first. The items stand in the first `len` slots.
-//
-// The type does not carry the invariant `Good`: each method asks for it and gives it back.
 #[derive(Drop)]
-pub struct Heap<'a, T> {
+pub struct Heap<'a, T: Ord + Copy> {
     slots: &'a mut [T],
+    // a count beside lent slots: the memory is fixed
     len: usize,
+    ghost within: { len ≤ length slots.now },
+    ghost heaped: { Heaped (before_by T.cmp) (take len slots.now) } by { HeapedWithin-prop (before_by T.cmp) (take len slots.now) 0 (length (take len slots.now)) },
 }
 
-impl<'a, T: TotalOrder> Heap<'a, T> {
+impl<'a, T: Ord + Copy> Heap<'a, T> {
+    ghost use Rattle.std.specs.Prelude.{◌≡◌, [], length};
+    ghost use Rattle.heap.specs.Held.{size, room, held, rest};
+
     // An empty heap that may hold as many items as there are slots.
     pub fn new(slots: &'a mut [T]) -> Heap<'a, T>
-        ensures good { Good T.before result }
         ensures size { size result ≡ 0 }
         ensures room { room result ≡ length slots.old }
         ensures held { held result ≡ [] }
@@ -38,7 +39,6 @@ impl<'a, T: TotalOrder> Heap<'a, T> {
 
     // The number of items.
     pub fn len(&self) -> usize
-        requires { Good T.before self.now }
         ensures size { result ≡ size self.now }
         ensures held { result ≡ length (held self.now) }
     {
@@ -49,8 +49,7 @@ impl<'a, T: TotalOrder> Heap<'a, T> {
     pub fn capacity(&self) -> usize
         ensures { result ≡ room self.now }
     {
-        let slots = &*self.slots;
-        slots.len()
+        self.slots.len()
     }
 }
 

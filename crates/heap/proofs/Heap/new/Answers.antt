@@ -1,7 +1,7 @@
-use Rattle.std.proofs.Common.{refl, arith}
+use Rattle.std.proofs.Common.{arith}
 use Rattle.heap.specs.Heaps.{HeapedWithin}
 use Rattle.heap.proofs.Heap.new.Goals as goal
 
-pub returns : goal.returns
+pub invariant_of-result : goal.invariant_of-result
 unfolding HeapedWithin
-returns g c = record { good = record { within = omega arith; heaped = λ p k d _ a b f. absurd (omega arith) }; size = refl; room = refl; held = refl; rest = refl; named = refl }
+invariant_of-result g c = record { within = omega arith; heaped = λ p k d _ a b f. absurd (omega arith) }
