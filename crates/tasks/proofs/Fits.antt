@@ -23,4 +23,4 @@ fits_at (x ∷ bs) zero d h l = let f = (both (cost_fits x.cost) (costs_fit bs) 
 fits_at (x ∷ bs) (suc i) d h l = fits_at bs i d (both (cost_fits x.cost) (costs_fit bs) h).1 (omega arith)
 
 pub cost_fits_lem : (t : Task) (i : ℕ) → i ≤ point_count t → (1 ≤ cost_of_block t i) × (cost_of_block t i ≤ 1000000)
-cost_fits_lem t i h = fits_at (vec_items t.blocks.records) i (record { cost = 0 }) t.costs (omega (arith, t.blocks.records.ok.0, t.count))
+cost_fits_lem t i h = fits_at (vec_items t.blocks) i (record { cost = 0 }) t.costs (omega (arith, t.blocks.ok.0, t.count))

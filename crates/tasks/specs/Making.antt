@@ -16,7 +16,7 @@ pub record SameBut (t : Task) (block cost : ℕ) (u : Task) : Type 0 where
   pub period : u.period ≡ t.period
   pub deadline : u.deadline ≡ t.deadline
   pub points : u.points ≡ t.points
-  pub blocks : vec_items u.blocks.records ≡ slice_set (vec_items t.blocks.records) (block - 1) (record { cost = cost })
+  pub blocks : vec_items u.blocks ≡ slice_set (vec_items t.blocks) (block - 1) (record { cost = cost })
 
 abbrev pub After : Task → ℕ → ℕ → Result (Unit {0}) Refusal → Task → Type 0
 After t block cost (Ok _) u = SameBut t block cost u

@@ -1,5 +1,6 @@
 -- The ranges of the model's numbers, each as the test that a making call decides.
-use Rattle.std.specs.Prelude.{ℕ, ◌+◌, Bool, true, ◌&&◌, List, [], ◌∷◌, ◌==◌, nat_le}
+use Rattle.std.specs.Prelude.{ℕ, ◌+◌, Bool, ◌&&◌, List, ◌==◌, nat_le}
+use Rattle.std.specs.List.{list_all}
 use Rattle.tasks.specs.declared.blocks.Block.{Block}
 
 abbrev pub point_fits : ℕ → Bool
@@ -17,8 +18,7 @@ abbrev pub task_cost_fits : ℕ → Bool
 task_cost_fits cost = nat_le 1 cost && nat_le cost 127000000
 
 abbrev pub costs_fit : List Block → Bool
-costs_fit [] = true
-costs_fit (b ∷ bs) = cost_fits b.cost && costs_fit bs
+costs_fit blocks = list_all (λ b. cost_fits b.cost) blocks
 
 -- 1 to 64 blocks, each in its range, and one point between each two neighbours
 abbrev pub body_fits : List Block → ℕ → ℕ → Bool

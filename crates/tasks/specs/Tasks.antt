@@ -13,7 +13,7 @@ abbrev pub point_count : Task → ℕ
 point_count t = vec_len t.points
 
 abbrev pub cost_of_block : Task → ℕ → ℕ
-cost_of_block t i = (get_or (vec_items t.blocks.records) i (record { cost = 0 })).cost
+cost_of_block t i = (get_or (vec_items t.blocks) i (record { cost = 0 })).cost
 
 abbrev pub point_at : Task → ℕ → Point
 point_at t i = slice_index_or (vec_items t.points) i no_point

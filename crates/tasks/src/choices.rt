@@ -27,7 +27,7 @@ impl Task {
         ensures value { result ≡ cost_of_block self.now index }
         ensures bound { result ≤ 1000000 }
     {
-        self.blocks.records[index].cost
+        self.blocks[index].cost
     }
 
     fn ticks_at(&self, index: usize) -> u32

@@ -4,6 +4,7 @@
 
 pub mod blocks;
 pub mod choices;
+pub mod clock;
 pub mod making;
 pub mod model;
 pub mod points;

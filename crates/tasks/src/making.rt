@@ -1,23 +1,26 @@
 ghost use Rattle.std.specs.Prelude.{◌≡◌, ◌+◌, ◌-◌, ◌<◌, ◌&&◌, is_ok, IfOk, IfErr, vec_len};
 ghost use Rattle.tasks.specs.Making.{Recosted};
-ghost use Rattle.tasks.specs.Ranges.{clock_fits, body_fits, costs_fit};
+ghost use Rattle.tasks.specs.Ranges.{clock_fits, body_fits, cost_fits, costs_fit};
 ghost use Rattle.tasks.specs.Tasks.{point_count};
 ghost use Rattle.tasks.specs.declared.refusals.Refusal.TheVariants.{OutOfRange, NoSuch};
 
-use crate::blocks::{Block, BlockTable};
+use crate::blocks::Block;
+use crate::clock::is_clock;
 use crate::model::Task;
 use crate::points::Point;
 use crate::refusals::Refusal;
 
+// A block costs 1 to 1,000,000 ticks.
+fn is_cost(cost: u32) -> bool
+    ensures { result ≡ cost_fits cost }
+{
+    (1..=1_000_000).contains(&cost)
+}
+
 fn all_costs_fit(blocks: &[Block]) -> bool
     ensures { result ≡ costs_fit blocks.now }
 {
-    for b in blocks {
-        if b.cost < 1 || 1_000_000 < b.cost {
-            return false;
-        }
-    }
-    true
+    blocks.iter().all(|block| is_cost(block.cost))
 }
 
 impl Task {
@@ -30,14 +33,14 @@ impl Task {
         points: Vec<Point>,
     ) -> Result<Task, Refusal>
         ensures test { is_ok result ≡ (clock_fits period deadline && body_fits blocks.items (vec_len blocks) (vec_len points)) }
-        ensures made { IfOk result (λ t. (t.code ≡ code) × (t.period ≡ period) × (t.deadline ≡ deadline) × (t.blocks.records ≡ blocks) × (t.points ≡ points)) }
+        ensures made { IfOk result (λ t. (t.code ≡ code) × (t.period ≡ period) × (t.deadline ≡ deadline) × (t.blocks ≡ blocks) × (t.points ≡ points)) }
         ensures refused { IfErr result (λ e. e ≡ OutOfRange) }
     {
-        if period < 10 || 1_000_000 < period || deadline < 1 || period < deadline {
+        if !is_clock(period, deadline) {
             return Err(Refusal::OutOfRange);
         }
         let count = blocks.len();
-        if count < 1 || 64 < count || points.len() != count - 1 {
+        if !(1..=64).contains(&count) || points.len() != count - 1 {
             return Err(Refusal::OutOfRange);
         }
         if !all_costs_fit(&blocks) {
@@ -47,7 +50,7 @@ impl Task {
             code,
             period,
             deadline,
-            blocks: BlockTable { records: blocks },
+            blocks,
             points,
         })
     }
@@ -72,9 +75,9 @@ impl Task {
 
     // Its blocks in their order.
     pub fn blocks(&self) -> &[Block]
-        ensures { result.now ≡ self.now.blocks.records.items }
+        ensures { result.now ≡ self.now.blocks.items }
     {
-        self.blocks.records.as_slice()
+        self.blocks.as_slice()
     }
 
     // Its points in their order: the one at index i lies between the blocks at i and i + 1.
@@ -88,7 +91,7 @@ impl Task {
     pub fn block_count(&self) -> usize
         ensures { result ≡ point_count self.now + 1 }
     {
-        self.blocks.records.len()
+        self.blocks.len()
     }
 }
 
@@ -97,13 +100,13 @@ impl Task {
     pub fn recost(&mut self, block: usize, cost: u32) -> Result<(), Refusal>
         ensures { Recosted self.old block cost result self.new }
     {
-        if cost < 1 || 1_000_000 < cost {
+        if !is_cost(cost) {
             return Err(Refusal::OutOfRange);
         }
-        if block < 1 || self.block_count() < block {
+        if !(1..=self.block_count()).contains(&block) {
             return Err(Refusal::NoSuch);
         }
-        self.blocks.record_mut(block - 1).cost = cost;
+        self.blocks[block - 1].cost = cost;
         Ok(())
     }
 }

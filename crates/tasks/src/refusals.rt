@@ -1,5 +1,8 @@
 ghost use Rattle.std.specs.Prelude.{◌≡◌};
 ghost use Rattle.tasks.specs.Refusals.{number, place};
+ghost use Rattle.tasks.specs.declared.refusals.Refusal.TheVariants.{NoMemory};
+
+use std::alloc::{AllocError, AllocFailed};
 
 // Why a call refused. A refused call has changed nothing.
 #[derive(Clone, Copy, PartialEq, Eq, Debug)]
@@ -12,6 +15,22 @@ pub enum Refusal {
     TooSmall,
     // no memory was to be had
     NoMemory,
+}
+
+impl From<AllocError> for Refusal {
+    ghost from_gives = { λ _ r. r ≡ NoMemory };
+
+    fn from(_: AllocError) -> Refusal {
+        Refusal::NoMemory
+    }
+}
+
+impl<T: Drop> From<AllocFailed<T>> for Refusal {
+    ghost from_gives = { λ _ r. r ≡ NoMemory };
+
+    fn from(_: AllocFailed<T>) -> Refusal {
+        Refusal::NoMemory
+    }
 }
 
 impl Refusal {

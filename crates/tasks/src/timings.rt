@@ -2,6 +2,7 @@ ghost use Rattle.std.specs.Prelude.{◌≡◌, ◌≤◌, ◌&&◌, is_ok, IfOk,
 ghost use Rattle.tasks.specs.Ranges.{clock_fits, task_cost_fits};
 ghost use Rattle.tasks.specs.declared.refusals.Refusal.TheVariants.{OutOfRange};
 
+use crate::clock::is_clock;
 use crate::refusals::Refusal;
 
 // What a tolerance rule is told of a task: its period, its deadline and its cost under a choice, in ticks.
@@ -20,10 +21,7 @@ impl Timing {
         ensures made { IfOk result (λ t. (t.period ≡ period) × (t.deadline ≡ deadline) × (t.cost ≡ cost)) }
         ensures refused { IfErr result (λ e. e ≡ OutOfRange) }
     {
-        if period < 10 || 1_000_000 < period || deadline < 1 || period < deadline {
-            return Err(Refusal::OutOfRange);
-        }
-        if cost < 1 || 127_000_000 < cost {
+        if !is_clock(period, deadline) || !(1..=127_000_000).contains(&cost) {
             return Err(Refusal::OutOfRange);
         }
         Ok(Timing {

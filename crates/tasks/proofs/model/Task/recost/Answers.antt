@@ -8,4 +8,4 @@ pub invariant_of-self-clause-costs : goal.invariant_of-self-clause-costs
 invariant_of-self-clause-costs c =
     let t = c.args.self.now in
     let f : cost_fits c.args.cost ≡ true = grind (arith, nat_tests) in
-    fits_set t.blocks.records.items _ (record { cost = c.args.cost }) f t.costs
+    fits_set t.blocks.items _ (record { cost = c.args.cost }) f t.costs
