@@ -3,7 +3,9 @@ use Rattle.std.proofs.Common.{◌≡◌, ℕ, zero, suc, ◌<◌, ◌≤◌, Boo
 use Rattle.std.proofs.lemmas.Bool.Decides.{nat_tests}
 use Rattle.tasks.specs.declared.blocks.Block.{Block}
 use Rattle.tasks.specs.declared.model.Task.{Task}
-use Rattle.tasks.specs.Tasks.{point_count, cost_of_block}
+use Rattle.tasks.specs.declared.points.Point.{Point}
+use Rattle.std.proofs.lemmas.List.{get_or_default}
+use Rattle.tasks.specs.Tasks.{point_count, cost_of_block, point_at, no_point}
 use Rattle.tasks.specs.Ranges.{cost_fits, costs_fit}
 
 pub both : (a b : Bool) → (a && b) ≡ true → (a ≡ true) × (b ≡ true)
@@ -24,3 +26,7 @@ fits_at (x ∷ bs) (suc i) d h l = fits_at bs i d (both (cost_fits x.cost) (cost
 
 pub cost_fits_lem : (t : Task) (i : ℕ) → i ≤ point_count t → (1 ≤ cost_of_block t i) × (cost_of_block t i ≤ 1000000)
 cost_fits_lem t i h = fits_at (vec_items t.blocks) i (record { cost = 0 }) t.costs (omega (arith, t.blocks.ok.0, t.count))
+
+-- the ticks of a point that is read at its index
+pub ticks_read : (t : Task) (i : ℕ) (p : Point) → p ≡ get_or (vec_items t.points) i p → i < length (vec_items t.points) → p.ticks ≡ (point_at t i).ticks
+ticks_read t i p e h = ap (λ q. q.ticks) (e ∙ get_or_default (vec_items t.points) i p no_point h)

@@ -1,4 +1,5 @@
 pub mod Fits
 pub mod Words
+pub mod Chosen
 pub mod Answering
 pub mod Walks

@@ -1,28 +1,9 @@
 -- One block more, for what a choice makes of a task.
-use Rattle.std.proofs.Common.{◌≡◌, ℕ, suc, ◌+◌, max, Bool, true, false, cond, List, [], ◌∷◌, ◌++◌, map, reverse, sym, refl, ap, ◌∙◌, subst, ap₂, add-zero, add_assoc, add-one, arith}
+use Rattle.std.proofs.Common.{◌≡◌, ℕ, suc, ◌+◌, true, false, cond, List, [], ◌∷◌, ◌++◌, map, reverse, sym, ap, ◌∙◌, subst, ap₂, add-zero, add_assoc, add-one}
 use Rattle.std.proofs.lemmas.List.{map_push, reverse-append, append-nil}
 use Rattle.tasks.specs.declared.choices.Stretch.{Stretch}
 use Rattle.tasks.specs.declared.points.Point.{Point}
-use Rattle.tasks.specs.Choices.{Choice, stretches, total, rising, greatest}
-
-module _ (cost : ℕ → ℕ) (point : ℕ → Point) (c : Choice) where
-  pub total_more : (k : ℕ) → total cost point c (k + 1) ≡ total cost point c k + cost (k + 1) + cond (c k) (point k).ticks 0
-  total_more k = ap (total cost point c) (add-one k) ∙ ap (λ n. total cost point c k + cost n + cond (c k) (point k).ticks 0) (sym (add-one k))
-
-  more_blocks : (k more : ℕ) → greatest (stretches cost point c (k + 1) more) ≡ cond (c k) (max ((point k).ticks + (cost (k + 1) + more)) (greatest (stretches cost point c k 0))) (greatest (stretches cost point c k (cost (k + 1) + more)))
-  more_blocks k more = ap (λ n. greatest (stretches cost point c n more)) (add-one k) ∙ by_choice (c k) ∙ ap (λ n. cond (c k) (max ((point k).ticks + (cost n + more)) (greatest (stretches cost point c k 0))) (greatest (stretches cost point c k (cost n + more)))) (sym (add-one k))
-    where
-      by_choice : (b : Bool) → greatest (cond b (((point k).ticks + (cost (suc k) + more)) ∷ stretches cost point c k 0) (stretches cost point c k (cost (suc k) + more))) ≡ cond b (max ((point k).ticks + (cost (suc k) + more)) (greatest (stretches cost point c k 0))) (greatest (stretches cost point c k (cost (suc k) + more)))
-      by_choice true = refl
-      by_choice false = refl
-
-  -- where the longest of the stretches so far is the greater of `top` and of the last one, which has `run` ticks and may go on
-  module _ (k top run : ℕ) (so_far : (more : ℕ) → greatest (stretches cost point c k more) ≡ max top (run + more)) where
-    pub begun : c k ≡ true → (more : ℕ) → greatest (stretches cost point c (k + 1) more) ≡ max (max top run) ((point k).ticks + cost (k + 1) + more)
-    begun h more = more_blocks k more ∙ ap (λ b. cond b (max ((point k).ticks + (cost (k + 1) + more)) (greatest (stretches cost point c k 0))) (greatest (stretches cost point c k (cost (k + 1) + more)))) h ∙ omega (arith, so_far 0)
-
-    pub gone_on : c k ≡ false → (more : ℕ) → greatest (stretches cost point c (k + 1) more) ≡ max top (run + cost (k + 1) + more)
-    gone_on h more = more_blocks k more ∙ ap (λ b. cond b (max ((point k).ticks + (cost (k + 1) + more)) (greatest (stretches cost point c k 0))) (greatest (stretches cost point c k (cost (k + 1) + more)))) h ∙ omega (arith, so_far (cost (k + 1) + more))
+use Rattle.tasks.specs.Choices.{Choice, stretches, rising}
 
 -- ---- the stretches one by one, and which blocks they have
 

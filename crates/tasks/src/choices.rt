@@ -1,11 +1,12 @@
-ghost use Rattle.std.specs.Prelude.{◌≡◌, ◌+◌, ◌^◌, ◌<◌, ◌≤◌, length, nat_lt};
+ghost use Rattle.std.specs.Prelude.{◌≡◌, ◌+◌, ◌≤◌, map, length, IfOk};
+ghost use Rattle.std.specs.List.{filter, range_with_len};
 ghost use Rattle.tasks.specs.Choices.{told};
-ghost use Rattle.tasks.specs.Tasks.{point_count, cost_of_block, point_at, cost_of, longest_of, points_of};
+ghost use Rattle.tasks.specs.Tasks.{point_count, cost_of_block, cost_of, longest_of, points_of};
 ghost use Rattle.tasks.specs.Under.{under, ListedUnder, StretchesUnder};
 
 use crate::model::Task;
 use crate::refusals::Refusal;
-use std::alloc::Global;
+use std::alloc::{AllocError, Global};
 
 // Whether a word chooses the point at an index.
 pub fn is_chosen(word: u64, index: usize) -> bool
@@ -16,10 +17,14 @@ pub fn is_chosen(word: u64, index: usize) -> bool
 
 // A word chooses points of a task by bit k - 1 for point k. One with a bit past the last point is refused.
 impl Task {
-    fn admits(&self, word: u64) -> bool
-        ensures { result ≡ nat_lt word (2 ^ point_count self.now) }
+    fn admit(&self, word: u64) -> Result<(), Refusal>
+        ensures { result ≡ under self.now word tt }
     {
-        word >> self.points.len() == 0
+        if word >> self.points.len() == 0 {
+            Ok(())
+        } else {
+            Err(Refusal::OutOfRange)
+        }
     }
 
     fn cost_at(&self, index: usize) -> u32
@@ -30,26 +35,16 @@ impl Task {
         self.blocks[index].cost
     }
 
-    fn ticks_at(&self, index: usize) -> u32
-        requires { index < point_count self.now }
-        ensures value { result ≡ (point_at self.now index).ticks }
-        ensures bound { result ≤ 1000000 }
-    {
-        self.points[index].ticks()
-    }
-
     // What the task costs under a word: its blocks, and the ticks of the chosen points.
     pub fn cost(&self, word: u64) -> Result<u32, Refusal>
         ensures { result ≡ under self.now word (cost_of self.now (told word)) }
     {
-        if !self.admits(word) {
-            return Err(Refusal::OutOfRange);
-        }
+        self.admit(word)?;
         let mut sum = self.cost_at(0);
-        for i in 0..self.points.len() {
+        for (i, point) in self.points.iter().enumerate() {
             sum += self.cost_at(i + 1);
             if is_chosen(word, i) {
-                sum += self.ticks_at(i);
+                sum += point.ticks();
             }
         }
         Ok(sum)
@@ -59,15 +54,13 @@ impl Task {
     pub fn longest(&self, word: u64) -> Result<u32, Refusal>
         ensures { result ≡ under self.now word (longest_of self.now (told word)) }
     {
-        if !self.admits(word) {
-            return Err(Refusal::OutOfRange);
-        }
+        self.admit(word)?;
         let mut longest: u32 = 0;
         let mut length = self.cost_at(0);
-        for i in 0..self.points.len() {
+        for (i, point) in self.points.iter().enumerate() {
             if is_chosen(word, i) {
                 longest = longest.max(length);
-                length = self.ticks_at(i);
+                length = point.ticks();
             }
             length += self.cost_at(i + 1);
         }
@@ -78,9 +71,7 @@ impl Task {
     pub fn number(&self, word: u64) -> Result<u32, Refusal>
         ensures { result ≡ under self.now word (length (points_of self.now (told word))) }
     {
-        if !self.admits(word) {
-            return Err(Refusal::OutOfRange);
-        }
+        self.admit(word)?;
         Ok(word.count_ones())
     }
 
@@ -88,20 +79,21 @@ impl Task {
     pub fn chosen(&self, heap: Global, word: u64) -> Result<Vec<u32>, Refusal>
         ensures { ListedUnder self.now word result }
     {
-        if !self.admits(word) {
-            return Err(Refusal::OutOfRange);
-        }
-        let mut list = Vec::new(heap);
-        let mut rest = word;
-        while rest != 0 {
-            let index = rest.trailing_zeros();
-            if list.push(index + 1).is_err() {
-                return Err(Refusal::NoMemory);
-            }
-            rest -= 1 << index;
-        }
-        Ok(list)
+        self.admit(word)?;
+        let numbers = chosen_below(heap, word, self.points.len() as u32)?;
+        Ok(numbers)
     }
+}
+
+// The numbers of the first `count` points that a word chooses, rising.
+fn chosen_below(heap: Global, word: u64, count: u32) -> Result<Vec<u32>, AllocError>
+    requires { count ≤ 63 }
+    ensures { IfOk result (λ list. list.items ≡ map (λ i. i + 1) (filter (told word) (range_with_len 0 count))) }
+{
+    (0..count)
+        .filter(|i| is_chosen(word, *i as usize))
+        .map(|i| i + 1)
+        .collect(heap)
 }
 
 // A stretch (non-preemptive region) of a task: the numbers of its first and last blocks, from 1, and its length in ticks.
@@ -117,38 +109,29 @@ impl Task {
     pub fn stretches(&self, heap: Global, word: u64) -> Result<Vec<Stretch>, Refusal>
         ensures { StretchesUnder self.now word result }
     {
-        if !self.admits(word) {
-            return Err(Refusal::OutOfRange);
-        }
+        self.admit(word)?;
         let mut list = Vec::new(heap);
         let mut first = 1;
         let mut length = self.cost_at(0);
-        for i in 0..self.points.len() {
+        for (i, point) in self.points.iter().enumerate() {
             if is_chosen(word, i) {
                 let last = i as u32 + 1;
-                if list
-                    .push(Stretch {
-                        first,
-                        last,
-                        length,
-                    })
-                    .is_err()
-                {
-                    return Err(Refusal::NoMemory);
-                }
+                list.push(Stretch {
+                    first,
+                    last,
+                    length,
+                })?;
                 first = last + 1;
-                length = self.ticks_at(i);
+                length = point.ticks();
             }
             length += self.cost_at(i + 1);
         }
         let last = self.block_count() as u32;
-        match list.push(Stretch {
+        list.push(Stretch {
             first,
             last,
             length,
-        }) {
-            Ok(()) => Ok(list),
-            Err(_) => Err(Refusal::NoMemory),
-        }
+        })?;
+        Ok(list)
     }
 }
