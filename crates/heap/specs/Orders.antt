@@ -21,13 +21,13 @@ not_both Greater e = sym e
 
 module _ {X : Type 0} {cmp : X → X → Ordering} (total : IsTotalOrder cmp) where
   -- y comes before x exactly where x comes after y
-  turned : (x y : X) → before_by cmp y x ≡ is_gt (cmp x y)
-  turned x y = ap is_lt (total.antisymm y x) ∙ lt_reverse (cmp x y)
+  pub before_turned : (x y : X) → before_by cmp y x ≡ is_gt (cmp x y)
+  before_turned x y = ap is_lt (total.antisymm y x) ∙ lt_reverse (cmp x y)
 
   -- of two items at most one comes before the other
   pub before_asym : (x y : X) → before_by cmp x y ≡ true → before_by cmp y x ≡ false
-  before_asym x y e = turned x y ∙ not_both (cmp x y) e
+  before_asym x y e = before_turned x y ∙ not_both (cmp x y) e
 
   -- "does not come before" goes on from one pair of items to the next
   pub before_chain : (x y z : X) → before_by cmp x y ≡ false → before_by cmp y z ≡ false → before_by cmp x z ≡ false
-  before_chain x y z p q = turned z x ∙ upto total z y x (sym (turned z y) ∙ q) (sym (turned y x) ∙ p)
+  before_chain x y z p q = before_turned z x ∙ upto total z y x (sym (before_turned z y) ∙ q) (sym (before_turned y x) ∙ p)

@@ -1,21 +1,10 @@
 // The measure that counts ticks, then charge.
-ghost use Rattle.measures.specs.Weights.{no_ticks_charge, join_ticks_charge, fewer_ticks_charge, fewer_ticks_charge_asym, fewer_ticks_charge_chain};
+ghost use Rattle.measures.specs.Weights.{no_ticks_charge, join_ticks_charge};
 ghost use Rattle.std.proofs.Common.{rules};
 
 use crate::measure::Measure;
 use crate::values::TicksCharge;
-use heap::TotalOrder;
 use tasks::points::Point;
-
-impl TotalOrder for TicksCharge {
-    ghost before = { fewer_ticks_charge };
-
-    ghost says = { Prim.search rules };
-
-    ghost asym = { fewer_ticks_charge_asym };
-
-    ghost chain = { fewer_ticks_charge_chain };
-}
 
 impl Measure for TicksCharge {
     ghost none = { no_ticks_charge };

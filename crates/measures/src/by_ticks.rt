@@ -1,21 +1,10 @@
 // The measure that counts ticks alone.
-ghost use Rattle.measures.specs.Weights.{no_ticks, join_ticks, fewer_ticks, fewer_ticks_asym, fewer_ticks_chain};
+ghost use Rattle.measures.specs.Weights.{no_ticks, join_ticks};
 ghost use Rattle.std.proofs.Common.{rules};
 
 use crate::measure::Measure;
 use crate::values::Ticks;
-use heap::TotalOrder;
 use tasks::points::Point;
-
-impl TotalOrder for Ticks {
-    ghost before = { fewer_ticks };
-
-    ghost says = { Prim.search rules };
-
-    ghost asym = { fewer_ticks_asym };
-
-    ghost chain = { fewer_ticks_chain };
-}
 
 impl Measure for Ticks {
     ghost none = { no_ticks };

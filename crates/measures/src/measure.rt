@@ -1,13 +1,13 @@
 ghost use Rattle.std.specs.Prelude.{◌≡◌, ℕ, ◌+◌, ◌≤◌, false};
 ghost use Rattle.tasks.specs.declared.points.Point.{Point};
+ghost use Rattle.heap.specs.Orders.{before_by};
 ghost use Rattle.measures.specs.Joins.{Reached};
 
-use heap::TotalOrder;
 use tasks::points::Point;
 
-// A measure of chosen points. The implementing type is that of its values, in a total order, and says by `none` and `join` which value a
+// A measure of chosen points. The implementing type is that of its values, which are ordered, and says by `none` and `join` which value a
 // choice has. At most 63 points are joined, as many as a task may have, and the laws speak of values that are so reached.
-pub trait Measure: TotalOrder {
+pub trait Measure: Ord + Copy {
     // the value of no points
     ghost none: { Self };
 
@@ -28,7 +28,7 @@ pub trait Measure: TotalOrder {
         ensures { result ≡ ticks self.now };
 
     // joining the same point keeps the order: where v is not greater than w, v with p is not greater than w with p
-    ghost keeps: { (v w : Self) (p : Point) → Reached none join 62 v → Reached none join 62 w → Self.TotalOrder.before w v ≡ false → Self.TotalOrder.before (join w p) (join v p) ≡ false };
+    ghost keeps: { (v w : Self) (p : Point) → Reached none join 62 v → Reached none join 62 w → before_by Self.Ord.cmp w v ≡ false → before_by Self.Ord.cmp (join w p) (join v p) ≡ false };
 
     // no points have no ticks
     ghost nothing: { ticks none ≡ 0 };
@@ -37,5 +37,5 @@ pub trait Measure: TotalOrder {
     ghost adds: { (v : Self) (p : Point) → Reached none join 62 v → ticks (join v p) ≡ ticks v + p.ticks };
 
     // a value that is not greater never has more ticks
-    ghost fewer: { (v w : Self) → Reached none join 63 v → Reached none join 63 w → Self.TotalOrder.before w v ≡ false → ticks v ≤ ticks w };
+    ghost fewer: { (v w : Self) → Reached none join 63 v → Reached none join 63 w → before_by Self.Ord.cmp w v ≡ false → ticks v ≤ ticks w };
 }

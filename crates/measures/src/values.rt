@@ -1,3 +1,7 @@
+ghost use Rattle.std.specs.Prelude.{◌≡◌};
+ghost use Rattle.heap.specs.Orders.{before_by};
+ghost use Rattle.measures.specs.Weights.{fewer_ticks, fewer_ticks_charge};
+
 // The ticks of the chosen points.
 #[derive(Clone, Copy, PartialEq, Eq, PartialOrd, Ord, Debug)]
 pub struct Ticks {
@@ -10,3 +14,9 @@ pub struct TicksCharge {
     pub ticks: u32,
     pub charge: u32,
 }
+
+// The values are ordered by ticks, and those of the second measure by their charge among equal ticks.
+pub fn orders_stand()
+    ensures ticks { (v w : Ticks) → before_by ⟦<Ticks as Ord>⟧.cmp v w ≡ fewer_ticks v w }
+    ensures charge { (v w : TicksCharge) → before_by ⟦<TicksCharge as Ord>⟧.cmp v w ≡ fewer_ticks_charge v w }
+{}

@@ -4,5 +4,6 @@
 pub mod answer;
 pub mod candidate;
 mod lengths;
+mod limited;
 pub mod selecting;
 mod starts;

@@ -1,10 +1,11 @@
 ghost use Rattle.std.specs.Prelude.{◌≡◌, length, IfOk};
+ghost use Rattle.heap.specs.Orders.{before_by};
 ghost use Rattle.selection.specs.Answers.{answer_of, BestWithin};
 
 use crate::answer::Selection;
 use crate::candidate::Candidate;
-use crate::lengths::{running_costs, stretch};
-use crate::starts::link;
+use crate::lengths::running_costs;
+use crate::limited::Limited;
 use measures::measure::Measure;
 use tasks::model::Task;
 use tasks::refusals::Refusal;
@@ -16,14 +17,18 @@ pub fn select<M: Measure>(
     limit: Option<u32>,
     places: &mut [Candidate<M>],
 ) -> Result<Option<Selection<M>>, Refusal>
-    ensures answer { result ≡ answer_of M.TotalOrder.before M.Measure.none M.Measure.join task.now limit (length places.old) }
-    ensures best { IfOk result (BestWithin M.TotalOrder.before M.Measure.none M.Measure.join task.now limit) }
+    ensures answer { result ≡ answer_of (before_by M.cmp) M.Measure.none M.Measure.join task.now limit (length places.old) }
+    ensures best { IfOk result (BestWithin (before_by M.cmp) M.Measure.none M.Measure.join task.now limit) }
 {
     if places.len() < 65 {
         return Err(Refusal::TooSmall);
     }
-    let costs = running_costs(task);
-    let links = link(task, &costs, limit, places);
+    let limited = Limited {
+        task,
+        limit,
+        costs: running_costs(task),
+    };
+    let links = limited.link(places);
     let Some(value) = links.value else {
         return Ok(None);
     };
@@ -33,7 +38,7 @@ pub fn select<M: Measure>(
     let mut end = blocks;
     while end > 0 {
         let start = links.starts[end - 1];
-        longest = longest.max(stretch(task, &costs, start, end - 1));
+        longest = longest.max(limited.length(start, end - 1));
         if start > 0 {
             points += 1 << (start - 1);
         }
@@ -43,7 +48,7 @@ pub fn select<M: Measure>(
         points,
         number: points.count_ones(),
         value,
-        cost: costs[blocks] + value.ticks(),
+        cost: limited.costs[blocks] + value.ticks(),
         longest,
     }))
 }

@@ -8,9 +8,9 @@ use Rattle.selection.proofs.Runs.{running_small}
 use Rattle.selection.proofs.lengths.running_costs.Goals as goal
 
 -- the block that a turn adds
-module _ (t : Task) (i : ℕ) (costs : List ℕ) (blocks : List Block) (are : blocks ≡ vec_items t.blocks.records) (lt : i < length blocks) where
+module _ (t : Task) (i : ℕ) (costs : List ℕ) (blocks : List Block) (are : blocks ≡ vec_items t.blocks) (lt : i < length blocks) where
   inside : i ≤ point_count t
-  inside = omega (arith, ap length are, t.blocks.records.ok.0, t.count)
+  inside = omega (arith, ap length are, t.blocks.ok.0, t.count)
 
   added : get_or costs i 0 ≡ cost_before (cost_of_block t) i → get_or costs i 0 + (get_or blocks i (record { cost = 0 })).cost ≡ cost_before (cost_of_block t) (suc i)
   added e = ap₂ ◌+◌ e (ap (λ (bs : List Block). (get_or bs i (record { cost = 0 })).cost) are)
@@ -39,4 +39,4 @@ loop-i-preserved c =
     )
 
 pub returns : goal.returns
-returns c = λ k h. let t = c.args.task.now in c.loop-i.invariant.1 k (omega (arith, c.loop-i-test.false, ap length c.blocks-block-items.ensures, t.blocks.records.ok.0, t.count))
+returns c = λ k h. let t = c.args.task.now in c.loop-i.invariant.1 k (omega (arith, c.loop-i-test.false, ap length c.blocks-block-items.ensures, t.blocks.ok.0, t.count))
