@@ -1,5 +1,4 @@
-use Rattle.std.proofs.Common.{◌≡◌, ℕ, suc, ◌+◌, ◌<◌, ◌≤◌, List, length, get_or, set, vec_items, sym, ap, ◌∙◌, ap₂, ⊎_elim, add-one, arith, length-set, get_or-set_other, get_or-set_same}
-use Rattle.std.proofs.Permutation.{which}
+use Rattle.std.proofs.Common.{◌≡◌, ℕ, suc, ◌+◌, ◌<◌, ◌≤◌, List, length, get_or, vec_items, ap, ap₂, arith}
 use Rattle.tasks.specs.declared.blocks.Block.{Block}
 use Rattle.tasks.specs.declared.model.Task.{Task}
 use Rattle.tasks.specs.Tasks.{cost_of_block, point_count}
@@ -22,21 +21,3 @@ overflow_add-costs c =
     let in' = inside t l.i l.costs c.blocks-block-items.result.now c.blocks-block-items.ensures c.loop-i-test.true in
     let more = added t l.i l.costs c.blocks-block-items.result.now c.blocks-block-items.ensures c.loop-i-test.true (l.invariant.1 l.i (omega arith)) in
     omega (arith, running_small t (suc l.i) (omega arith), t.count)
-
-pub loop-i-preserved : goal.loop-i-preserved
-loop-i-preserved c =
-    let l = c.loop-i in
-    let t = c.args.task.now in
-    let in' = inside t l.i l.costs c.blocks-block-items.result.now c.blocks-block-items.ensures c.loop-i-test.true in
-    let more = added t l.i l.costs c.blocks-block-items.result.now c.blocks-block-items.ensures c.loop-i-test.true (l.invariant.1 l.i (omega arith)) in
-    let room : l.i + 1 < length l.costs = omega (arith, t.count, l.invariant.0) in
-    let v = get_or l.costs l.i 0 + (get_or c.blocks-block-items.result.now l.i (record { cost = 0 })).cost in (
-      length-set l.costs (l.i + 1) v ∙ l.invariant.0,
-      λ k h. ⊎_elim
-          (λ e. ap (λ x. get_or (set l.costs (l.i + 1) v) x 0) e ∙ get_or-set_same l.costs (l.i + 1) v 0 room ∙ more ∙ ap (cost_before (cost_of_block t)) (sym (add-one l.i) ∙ sym e))
-          (λ ne. get_or-set_other l.costs (l.i + 1) k v 0 ne ∙ l.invariant.1 k (omega arith))
-          (which k (l.i + 1)),
-    )
-
-pub returns : goal.returns
-returns c = λ k h. let t = c.args.task.now in c.loop-i.invariant.1 k (omega (arith, c.loop-i-test.false, ap length c.blocks-block-items.ensures, t.blocks.ok.0, t.count))

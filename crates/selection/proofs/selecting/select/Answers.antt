@@ -1,4 +1,4 @@
-use Rattle.std.proofs.Common.{◌≡◌, ℕ, ◌+◌, ◌-◌, ◌*◌, ◌%◌, ◌^◌, ◌<◌, ◌≤◌, max, length, get_or, Some, None, Option, sym, refl, ap, ◌∙◌, subst, ap₂, add-one, arith, pow_mono}
+use Rattle.std.proofs.Common.{◌≡◌, ℕ, ◌+◌, ◌-◌, ◌*◌, ◌%◌, ◌^◌, ◌<◌, ◌≤◌, max, length, get_or, Some, None, Option, sym, ap, ◌∙◌, subst, ap₂, add-one, arith, pow_mono}
 use lib.Count.{ones}
 use Rattle.std.proofs.lemmas.Nat.{one_shl}
 use Rattle.heap.specs.Orders.{before_asym, before_by, before_chain}
@@ -106,17 +106,14 @@ loop-end-preserved g c =
 selection_is : (g : given.Over) (c : At-loop-end g) → selection_of (before_by g.M.Ord.cmp) g.M.Measure.none g.M.Measure.join c.args.task.now c.args.limit ≡ Some (chosen g c).0
 selection_is g c = ap (selected (before_by g.M.Ord.cmp) g.M.Measure.none g.M.Measure.join c.args.task.now c.args.limit) (sym (add-one (point_count c.args.task.now))) ∙ (chosen g c).1
 
-pub returns-in_default : goal.returns-in_default
-returns-in_default g c =
+pub returns-in_default-clause-best : goal.returns-in_default-clause-best
+returns-in_default-clause-best g c =
     let t = c.args.task.now in
     let before = before_by g.M.Ord.cmp in
     let none = g.M.Measure.none in
     let join = g.M.Measure.join in
     let is : selection_of before none join t c.args.limit ≡ None = ap (selected before none join t c.args.limit) (sym (add-one (point_count t))) ∙ steps.value_none (selected before none join t c.args.limit (point_count t + 1)) (sym c.link-links.ensures.value ∙ c.in_default.is) in
-    record {
-      answer = whole.answered before none join t c.args.limit (length c.args.places.now) None None c.if-places-lt65.false is refl;
-      best = whole.best_within before none join t c.args.limit (before_asym g.met.M.Ord.total) (before_chain g.met.M.Ord.total) g.met.M.Measure.keeps None is;
-    }
+    whole.best_within before none join t c.args.limit (before_asym g.met.M.Ord.total) (before_chain g.met.M.Ord.total) g.met.M.Measure.keeps None is
 
 pub ticks-requires : goal.ticks-requires
 ticks-requires g c =

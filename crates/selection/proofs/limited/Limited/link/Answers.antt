@@ -1,6 +1,5 @@
 use Rattle.std.proofs.Common.{◌≡◌, suc, ◌+◌, ◌<◌, length, Some, None, sym, ap, ◌∙◌, subst, add-one, arith, length-set}
 use Rattle.heap.specs.Orders.{before_asym, before_by, before_chain}
-use Rattle.tasks.specs.Tasks.{point_count}
 use Rattle.selection.specs.Linked.{value_of, selected, Linked, Picked}
 use Rattle.selection.proofs.Steps as steps
 use Rattle.selection.proofs.limited.Limited.link.Goals as goal
@@ -39,16 +38,3 @@ loop-end-preserved g c =
             subst (Linked before none join t limit (k + 1)) (sym w.starts-is) (steps.linked_none before none join t limit (before_asym g.met.M.Ord.total) (before_chain g.met.M.Ord.total) k l.starts l.invariant.5 p),
           )
     ]
-
-pub returns : goal.returns
-returns g c =
-    let t = c.args.self.now.task.now in
-    let l = c.loop-end in
-    let end : l.end ≡ point_count t + 1 = omega (arith, c.loop-end-test.false, l.auto.end-end, c.block_count-end-end.ensures) in
-    let before = before_by g.M.Ord.cmp in
-    let none = g.M.Measure.none in
-    let join = g.M.Measure.join in
-    record {
-      linked = subst (λ n. Linked before none join t c.args.self.now.limit n l.starts) end l.invariant.5;
-      value = l.invariant.4 ∙ ap (λ n. value_of (selected before none join t c.args.self.now.limit n)) end;
-    }
