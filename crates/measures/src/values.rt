@@ -3,13 +3,13 @@ ghost use Rattle.heap.specs.Orders.{before_by};
 ghost use Rattle.measures.specs.Weights.{fewer_ticks, fewer_ticks_charge};
 
 // The ticks of the chosen points.
-#[derive(Clone, Copy, PartialEq, Eq, PartialOrd, Ord, Debug)]
+#[derive(Clone, Copy, PartialEq, Eq, PartialOrd, Ord, Default, Debug)]
 pub struct Ticks {
     pub ticks: u32,
 }
 
 // The ticks of the chosen points, and their charge in microcoulombs, which decides among equal ticks.
-#[derive(Clone, Copy, PartialEq, Eq, PartialOrd, Ord, Debug)]
+#[derive(Clone, Copy, PartialEq, Eq, PartialOrd, Ord, Default, Debug)]
 pub struct TicksCharge {
     pub ticks: u32,
     pub charge: u32,

@@ -3,18 +3,12 @@ use crate::problem::Problem;
 use std::alloc::Global;
 use std::fmt;
 use tasks::blocks::Block;
+use tasks::clock::Clock;
 use tasks::model::Task;
 use tasks::points::Point;
 use tasks::timings::Timing;
 
-#[derive(Clone, Copy)]
-pub struct Clock {
-    code: u8,
-    period: u32,
-    deadline: u32,
-}
-
-#[derive(Clone, Copy)]
+#[derive(Clone, Copy, PartialEq, Eq, Debug)]
 pub struct Ask {
     pub limit: Option<u32>,
     pub by: By,
@@ -56,12 +50,8 @@ impl Draft {
         if self.clock.is_some() {
             return Err(Problem::TaskTwice);
         }
-        let Ok(code) = u8::try_from(code) else {
-            return Err(Problem::Code);
-        };
-        if Timing::new(period, deadline, 1).is_err() {
-            return Err(Problem::Clock);
-        }
+        let code = u8::try_from(code).map_err(|_| Problem::Code)?;
+        Timing::new(period, deadline, 1).map_err(|_| Problem::Clock)?;
         self.clock = Some(Clock {
             code,
             period,
@@ -80,7 +70,7 @@ impl Draft {
         if self.blocks.len() >= 64 {
             return Err(Problem::Blocks);
         }
-        if cost < 1 || 1_000_000 < cost {
+        if !(1..=1_000_000).contains(&cost) {
             return Err(Problem::Cost);
         }
         self.blocks.push(Block { cost })?;
@@ -91,12 +81,8 @@ impl Draft {
         if self.blocks.len() <= self.points.len() || !self.asks.is_empty() {
             return Err(Problem::PointHere);
         }
-        let Ok(charge) = u16::try_from(charge) else {
-            return Err(Problem::Charge);
-        };
-        let Ok(point) = Point::new(ticks, charge) else {
-            return Err(Problem::Ticks);
-        };
+        let charge = u16::try_from(charge).map_err(|_| Problem::Charge)?;
+        let point = Point::new(ticks, charge).map_err(|_| Problem::Ticks)?;
         self.points.push(point)?;
         Ok(())
     }
@@ -131,15 +117,13 @@ impl Draft {
             points,
             asks,
         } = self;
-        let Some(clock) = clock else {
-            return Err(Problem::NoTask);
-        };
+        let clock = clock.ok_or(Problem::NoTask)?;
         if asks.is_empty() {
             return Err(Problem::NoLimit);
         }
-        match Task::new(clock.code, clock.period, clock.deadline, blocks, points) {
-            Ok(task) => Ok((task, asks)),
-            Err(_) => Err(Problem::NoTask),
-        }
+        let task = Task::new(clock.code, clock.period, clock.deadline, blocks, points).map_err(
+            |_| Problem::NoTask,
+        )?;
+        Ok((task, asks))
     }
 }

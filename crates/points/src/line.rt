@@ -30,13 +30,8 @@ pub enum Line {
 }
 
 fn number(word: Option<&str>) -> Result<u32, Problem> {
-    let Some(text) = word else {
-        return Err(Problem::MissingNumber);
-    };
-    match text.parse::<u32>() {
-        Ok(n) => Ok(n),
-        Err(_) => Err(Problem::NotANumber),
-    }
+    let text = word.ok_or(Problem::MissingNumber)?;
+    text.parse().map_err(|_| Problem::NotANumber)
 }
 
 fn nothing(word: Option<&str>) -> Result<(), Problem> {

@@ -20,10 +20,7 @@ fn read(rt: &HostRuntime) -> anyhow::Result<Draft> {
     for text in rt.lines(rt.alloc()) {
         let text = text?;
         number = number.saturating_add(1);
-        let added = match read_line(text.as_str()) {
-            Ok(line) => draft.add(line),
-            Err(problem) => Err(problem),
-        };
+        let added = read_line(text.as_str()).and_then(|line| draft.add(line));
         if let Err(problem) = added {
             return Err(anyhow!(format!(in rt.alloc(); "line {number}: {problem}")?));
         }
@@ -32,16 +29,11 @@ fn read(rt: &HostRuntime) -> anyhow::Result<Draft> {
 }
 
 fn run(rt: &HostRuntime) -> anyhow::Result<()> {
-    let draft = read(rt)?;
-    match draft.finish() {
-        Ok((task, asks)) => {
-            for ask in asks.iter() {
-                print_answer(rt, &task, *ask)?;
-            }
-            Ok(())
-        }
-        Err(problem) => Err(anyhow!(problem.text())),
+    let (task, asks) = read(rt)?.finish()?;
+    for ask in &asks {
+        print_answer(rt, &task, *ask)?;
     }
+    Ok(())
 }
 
 fn main(rt: HostRuntime) -> ExitCode {

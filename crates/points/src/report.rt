@@ -7,7 +7,6 @@ use selection::answer::Selection;
 use selection::candidate::Candidate;
 use selection::selecting::select;
 use std::fmt;
-use tasks::choices::Stretch;
 use tasks::model::Task;
 use tasks::refusals::Refusal;
 
@@ -19,36 +18,29 @@ struct Answer {
     longest: u32,
 }
 
-fn answer_of<M: Measure>(found: Option<Selection<M>>) -> Option<Answer> {
-    match found {
-        Some(s) => Some(Answer {
-            points: s.points,
-            cost: s.cost,
-            longest: s.longest,
-        }),
-        None => None,
+impl<M: Copy> From<Selection<M>> for Answer {
+    fn from(found: Selection<M>) -> Answer {
+        Answer {
+            points: found.points,
+            cost: found.cost,
+            longest: found.longest,
+        }
     }
+}
+
+// The best points by a measure, with working places for its values.
+fn best<M: Measure>(
+    task: &Task,
+    limit: Option<u32>,
+    places: &mut [Candidate<M>],
+) -> Result<Option<Answer>, Refusal> {
+    Ok(select(task, limit, places)?.map(Answer::from))
 }
 
 fn find_points(task: &Task, ask: Ask) -> Result<Option<Answer>, Refusal> {
     match ask.by {
-        By::Ticks => {
-            let mut places = [Candidate {
-                value: Ticks { ticks: 0 },
-                start: 0,
-            }; 65];
-            Ok(answer_of(select(task, ask.limit, &mut places)?))
-        }
-        By::TicksCharge => {
-            let mut places = [Candidate {
-                value: TicksCharge {
-                    ticks: 0,
-                    charge: 0,
-                },
-                start: 0,
-            }; 65];
-            Ok(answer_of(select(task, ask.limit, &mut places)?))
-        }
+        By::Ticks => best::<Ticks>(task, ask.limit, &mut [Candidate::default(); 65]),
+        By::TicksCharge => best::<TicksCharge>(task, ask.limit, &mut [Candidate::default(); 65]),
     }
 }
 
@@ -68,18 +60,6 @@ impl fmt::Display for PointList<'_> {
     }
 }
 
-fn print_stretch(rt: &HostRuntime, s: Stretch) -> anyhow::Result<()> {
-    let first = s.first;
-    let last = s.last;
-    let length = s.length;
-    if first == last {
-        println!(rt; "  block {first}: {length} ticks")?;
-    } else {
-        println!(rt; "  blocks {first} to {last}: {length} ticks")?;
-    }
-    Ok(())
-}
-
 // An answer as it is printed: cost, points and longest stretch, and then each stretch with its blocks and length.
 fn print_found(rt: &HostRuntime, task: &Task, ask: Ask, found: Answer) -> anyhow::Result<()> {
     let (Ok(numbers), Ok(stretches)) = (
@@ -88,12 +68,14 @@ fn print_found(rt: &HostRuntime, task: &Task, ask: Ask, found: Answer) -> anyhow
     ) else {
         return Err(anyhow!("no memory is left"));
     };
-    let cost = found.cost;
-    let longest = found.longest;
-    let list = PointList(numbers.as_slice());
-    println!(rt; "{ask}: cost {cost}, points{list}, longest stretch {longest}")?;
-    for s in stretches.iter() {
-        print_stretch(rt, *s)?;
+    println!(rt;
+        "{ask}: cost {}, points{}, longest stretch {}",
+        found.cost,
+        PointList(&numbers),
+        found.longest
+    )?;
+    for stretch in &stretches {
+        println!(rt; "  {stretch}")?;
     }
     Ok(())
 }

@@ -7,6 +7,7 @@ ghost use Rattle.tasks.specs.Under.{under, ListedUnder, StretchesUnder};
 use crate::model::Task;
 use crate::refusals::Refusal;
 use std::alloc::{AllocError, Global};
+use std::fmt;
 
 // Whether a word chooses the point at an index.
 pub fn is_chosen(word: u64, index: usize) -> bool
@@ -102,6 +103,20 @@ pub struct Stretch {
     pub first: u32,
     pub last: u32,
     pub length: u32,
+}
+
+impl fmt::Display for Stretch {
+    fn fmt<W: fmt::Write>(&self, f: &mut fmt::Formatter<W>) -> fmt::Result {
+        if self.first == self.last {
+            write!(f, "block {}: {} ticks", self.first, self.length)
+        } else {
+            write!(
+                f,
+                "blocks {} to {}: {} ticks",
+                self.first, self.last, self.length
+            )
+        }
+    }
 }
 
 impl Task {

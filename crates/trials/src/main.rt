@@ -4,10 +4,10 @@
 ghost use Rattle.trials.specs.Figures.{Figures};
 
 mod brute;
-mod random;
+mod drawn;
 
 use anyhow::anyhow;
-use brute::Tally;
+use brute::{Question, Tally};
 use measures::values::{Ticks, TicksCharge};
 use random::Random;
 use selection::candidate::Candidate;
@@ -19,21 +19,22 @@ fn figures()
     ensures { Figures }
 {}
 
-// Both measures over random tasks, each asked at some limits, with working places for each.
-fn compare_all(
-    heap: Global,
-    ticks_places: &mut [Candidate<Ticks>],
-    charge_places: &mut [Candidate<TicksCharge>],
-) -> Result<(Tally, Tally), Refusal> {
-    let mut random = Random::new(20261117);
-    let mut ticks = Tally::new();
-    let mut charge = Tally::new();
+// Both measures over random tasks, each asked at some limits.
+fn compare_all(heap: Global) -> Result<(Tally, Tally), Refusal> {
+    let mut random = Random { state: 20261117 };
+    let mut ticks = Tally::default();
+    let mut charge = Tally::default();
+    let mut ticks_places = [Candidate::<Ticks>::default(); 65];
+    let mut charge_places = [Candidate::<TicksCharge>::default(); 65];
     for _ in 0..3000u32 {
-        let task = random.task(heap)?;
+        let task = drawn::task(&mut random, heap)?;
         for _ in 0..4u32 {
-            let limit = random.limit();
-            ticks.compare(&task, limit, ticks_places);
-            charge.compare(&task, limit, charge_places);
+            let question = Question {
+                task: &task,
+                limit: drawn::limit(&mut random),
+            };
+            ticks.compare(question, &mut ticks_places);
+            charge.compare(question, &mut charge_places);
         }
     }
     Ok((ticks, charge))
@@ -41,18 +42,7 @@ fn compare_all(
 
 fn main(rt: HostRuntime) -> anyhow::Result<()> {
     figures();
-    let mut ticks_places = [Candidate {
-        value: Ticks { ticks: 0 },
-        start: 0,
-    }; 65];
-    let mut charge_places = [Candidate {
-        value: TicksCharge {
-            ticks: 0,
-            charge: 0,
-        },
-        start: 0,
-    }; 65];
-    let Ok((ticks, charge)) = compare_all(rt.alloc(), &mut ticks_places, &mut charge_places) else {
+    let Ok((ticks, charge)) = compare_all(rt.alloc()) else {
         return Err(anyhow!("no task could be made"));
     };
     println!(rt; "ticks alone: {ticks}")?;
