@@ -9,9 +9,11 @@ use Rattle.std.proofs.lemmas.Bool.Decides.{nat_tests}
 use Rattle.std.specs.List.Sorted.{IsPermutation}
 use Rattle.std.specs.List.{ContainsAt as Has, AllByRecursion}
 use Rattle.heap.specs.Heaps.{Least}
+use Rattle.heap.specs.Orders.{before_by}
 use Rattle.tasks.specs.declared.timings.Timing.{Timing}
 use Rattle.rules.specs.declared.multiple.Multiple.{Multiple}
-use Rattle.rules.specs.Multiples.{sooner}
+use Rattle.rules.specs.contracts.multiple.MultipleOrd.TheImpl as ord
+use Rattle.rules.specs.Multiples.{sooner_is}
 use Rattle.rules.specs.Slacks.{load, demand}
 use Rattle.rules.specs.Tables.{no_timing}
 use Rattle.rules.specs.Walks.{task_of, Next, carried, Holds}
@@ -21,11 +23,11 @@ sums_le : {X : Type 0} (f g : X → ℕ) (xs : List X) → AllByRecursion (λ x.
 sums_le f g [] h = le_refl _
 sums_le f g (x ∷ xs) h = omega (arith, sum_by-cons f x xs, sum_by-cons g x xs, h.0, sums_le f g xs h.1)
 
-no_sooner : (x y : Multiple) → sooner y x ≡ false → x.at ≤ y.at
-no_sooner x y h = grind (arith, nat_tests)
+no_sooner : (x y : Multiple) → before_by ord.ghosts.cmp y x ≡ false → x.at ≤ y.at
+no_sooner x y h = let k = sym (sooner_is y x) ∙ h in grind (arith, nat_tests)
 
-pub least_at : (x : Multiple) (xs : List Multiple) → Least sooner x xs → AllByRecursion (λ y. x.at ≤ y.at) xs
-least_at x xs h = All-weaker (λ y. sooner y x ≡ false) (λ y. x.at ≤ y.at) (no_sooner x) xs h
+pub least_at : (x : Multiple) (xs : List Multiple) → Least (before_by ord.ghosts.cmp) x xs → AllByRecursion (λ y. x.at ≤ y.at) xs
+least_at x xs h = All-weaker (λ y. before_by ord.ghosts.cmp y x ≡ false) (λ y. x.at ≤ y.at) (no_sooner x) xs h
 
 module _ (ts : List Timing) where
   long : (x : Multiple) → 0 < (task_of ts x).period

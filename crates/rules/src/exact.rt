@@ -1,8 +1,7 @@
 ghost use Rattle.std.specs.Prelude.{◌≡◌, if◌then◌else◌, sum_by, int_lt};
 ghost use Rattle.std.proofs.Common.{ap, ◌∙◌, arith, rules};
 ghost use Rattle.std.proofs.lemmas.Int.{ints};
-ghost use Rattle.heap.specs.Held.{size, room, held, Good};
-ghost use Rattle.rules.specs.Multiples.{sooner};
+ghost use Rattle.heap.specs.Held.{size, room, held};
 ghost use Rattle.rules.specs.Slacks.{slack_at};
 ghost use Rattle.rules.specs.Tables.{Asked, deadline_at};
 ghost use Rattle.rules.specs.Tolerances.{exact_moment, exact_tolerance, FirstGreatest};
@@ -68,10 +67,8 @@ impl Rule for Exact {
 // Puts the period of each task down to the place into the heap, and gives the demand up to the first of them.
 fn release(heap: &mut Heap<'_, Multiple>, tasks: &[Timing], place: usize) -> u64
     requires asked { Asked tasks.now place }
-    requires good { Good sooner heap.old }
     requires empty { size heap.old ≡ 0 }
     requires room { room heap.old ≡ 32 }
-    ensures good { Good sooner heap.new }
     ensures size { size heap.new ≡ place }
     ensures holds { Holds tasks.now place 0 (held heap.new) }
     ensures demand { result ≡ sum_by (carried tasks.now) (held heap.new) }
@@ -90,7 +87,6 @@ fn release(heap: &mut Heap<'_, Multiple>, tasks: &[Timing], place: usize) -> u64
 // would have no more than the best.
 fn walk(heap: &mut Heap<'_, Multiple>, tasks: &[Timing], place: usize, first: u64) -> Answer
     requires asked { Asked tasks.now place }
-    requires good { Good sooner heap.old }
     requires size { size heap.old ≡ place }
     requires holds { Holds tasks.now place 0 (held heap.old) }
     requires demand { first ≡ sum_by (carried tasks.now) (held heap.old) }

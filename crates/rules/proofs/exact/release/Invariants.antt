@@ -1,13 +1,11 @@
 use Rattle.std.proofs.Common.{◌≡◌, sum_by}
-use Rattle.heap.specs.Held.{size, room, held, Good}
-use Rattle.rules.specs.Multiples.{sooner}
+use Rattle.heap.specs.Held.{size, room, held}
 use Rattle.rules.specs.Walks.{Holds, carried}
 use Rattle.rules.proofs.exact.release.Given as goal
 
 abbrev pub invariant-loop-i : goal.invariant-loop-i
 invariant-loop-i l =
-    Good sooner l.heap
-    × (size l.heap ≡ l.i)
+    (size l.heap ≡ l.i)
     × (room l.heap ≡ 32)
     × Holds l.tasks l.i 0 (held l.heap)
     × (l.demand ≡ sum_by (carried l.tasks) (held l.heap))

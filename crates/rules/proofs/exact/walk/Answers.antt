@@ -20,7 +20,7 @@ by_is c =
     c.deadline-deadline.ensures ∙ ap (λ (y : Timing). y.deadline) (get_or_read c.args.tasks.now _ x (omega (arith, c.requires.asked.first, c.requires.asked.last)) c.index-tasks-place.is no_timing)
 
 demand_fits : (c : At-loop-best) → c.loop-best.demand ≤ 406400000000000
-demand_fits c = sum_small c.args.tasks.now c.args.place _ _ _ _ c.loop-best.invariant.2.0 c.requires.asked c.loop-best.invariant.2.1
+demand_fits c = sum_small c.args.tasks.now c.args.place _ _ _ _ c.loop-best.invariant.1.0 c.requires.asked c.loop-best.invariant.1.1
 
 pub left-requires : goal.left-requires
 left-requires c =
@@ -29,7 +29,7 @@ left-requires c =
 pub loop-best-init : goal.loop-best-init
 loop-best-init c =
     let is = to_z-of_z w64 c.left.result (record { sfits = c.left.type_inv }) ∙ c.left.ensures in
-    (c.requires.good, c.requires.size, (0, walk_starts c.args.tasks.now c.args.place (held c.args.heap.now) c.args.first _ c.requires.holds c.requires.demand is))
+    (c.requires.size, (0, walk_starts c.args.tasks.now c.args.place (held c.args.heap.now) c.args.first _ c.requires.holds c.requires.demand is))
 
 pub left-requires-in-loop-best : goal.left-requires-in-loop-best
 left-requires-in-loop-best c = demand_fits c
@@ -49,7 +49,7 @@ returns-then-deadline-next c =
     let slack = ap (λ t. pos t -ℤ pos l.demand) by in
     let fits : SFits w64 l.best.tolerance = search rules in
     let more : l.best.tolerance <ℤ c.left-in-loop-best.result = let right : SFits w64 c.left-in-loop-best.result = record { sfits = c.left-in-loop-best.type_inv } in let h = simp to_z-of_z at c.loop-best-test.true in grind (arith, ints) in
-    let ends = walk_ends ts p (held l.heap) l.demand l.best.tolerance l.best.moment l.invariant.2.0 far (subst (λ v. l.best.tolerance <ℤ v) (c.left-in-loop-best.ensures ∙ slack) more) l.invariant.2.1 in
+    let ends = walk_ends ts p (held l.heap) l.demand l.best.tolerance l.best.moment l.invariant.1.0 far (subst (λ v. l.best.tolerance <ℤ v) (c.left-in-loop-best.ensures ∙ slack) more) l.invariant.1.1 in
     let is = to_z-of_z w64 c.left-then-deadline-next.result (record { sfits = c.left-then-deadline-next.type_inv }) ∙ c.left-then-deadline-next.ensures ∙ slack in
     record { tolerance = is ∙ ends.1; moment = by ∙ ends.0 }
 
@@ -58,8 +58,8 @@ left-requires-in-loop-best-2 c = demand_fits (goal.at.left-requires-in-loop-best
 
 next_there : (c : After-replace_top) → c.in-Some.next.task < length c.args.tasks.now
 next_there c =
-    let w = c.loop-best.invariant.2.1 in
-    let at = all-has (Next c.args.tasks.now c.args.place c.loop-best.invariant.2.0) (held c.loop-best.heap) c.in-Some.next w.holds.each c.in-Some.ensures.cases.0 in
+    let w = c.loop-best.invariant.1.1 in
+    let at = all-has (Next c.args.tasks.now c.args.place c.loop-best.invariant.1.0) (held c.loop-best.heap) c.in-Some.next w.holds.each c.in-Some.ensures.cases.0 in
     omega (arith, at.there, c.requires.asked.last)
 
 cost_is : (c : After-replace_top) → c.from-demand.result ≡ (task_of c.args.tasks.now c.in-Some.next).cost
@@ -88,8 +88,8 @@ loop-best-preserved c =
     let v = to_z-of_z w64 c.left-in-loop-best-2.result (record { sfits = c.left-in-loop-best-2.type_inv }) ∙ c.left-in-loop-best-2.ensures in
     let t = c.judged-best.ensures.tolerance ∙ ap (λ z. cond (lt_z l.best.tolerance z) z l.best.tolerance) v in
     let m = c.judged-best.ensures.moment ∙ ap (λ z. cond (lt_z l.best.tolerance z) x.at l.best.moment) v in
-    let walked = walk_meets ts p x y (held l.heap) (held c.replace_top.new.self) l.demand l.best.tolerance l.best.moment l.invariant.2.0 _ _ top.cases.0 (least_at x (held l.heap) top.cases.1) early refl step moved t m l.invariant.2.1 in
-    (r.good, r.size ∙ l.invariant.1, (x.at, subst (λ n. Walked ts p (held c.replace_top.new.self) (l.demand + n) c.judged-best.result.tolerance c.judged-best.result.moment x.at) (sym (cost_is c)) walked))
+    let walked = walk_meets ts p x y (held l.heap) (held c.replace_top.new.self) l.demand l.best.tolerance l.best.moment l.invariant.1.0 _ _ top.cases.0 (least_at x (held l.heap) top.cases.1) early refl step moved t m l.invariant.1.1 in
+    (r.size ∙ l.invariant.0, (x.at, subst (λ n. Walked ts p (held c.replace_top.new.self) (l.demand + n) c.judged-best.result.tolerance c.judged-best.result.moment x.at) (sym (cost_is c)) walked))
 
 pub returns : goal.returns
 returns c =
@@ -100,5 +100,5 @@ returns c =
     let slack = ap (λ t. pos t -ℤ pos l.demand) by in
     let fits : SFits w64 l.best.tolerance = search rules in
     let no : c.left-in-loop-best.result ≤ℤ l.best.tolerance = let right : SFits w64 c.left-in-loop-best.result = record { sfits = c.left-in-loop-best.type_inv } in let h = simp to_z-of_z at c.loop-best-test.false in grind (arith, ints) in
-    let stops = walk_stops ts p (held l.heap) l.demand l.best.tolerance l.best.moment l.invariant.2.0 (subst (λ v. v ≤ℤ l.best.tolerance) (c.left-in-loop-best.ensures ∙ slack) no) l.invariant.2.1 in
+    let stops = walk_stops ts p (held l.heap) l.demand l.best.tolerance l.best.moment l.invariant.1.0 (subst (λ v. v ≤ℤ l.best.tolerance) (c.left-in-loop-best.ensures ∙ slack) no) l.invariant.1.1 in
     record { tolerance = stops.1; moment = stops.0 }

@@ -1,13 +1,11 @@
 use Rattle.std.proofs.Common.{◌≡◌, ℕ, ◌-◌}
-use Rattle.heap.specs.Held.{size, held, Good}
-use Rattle.rules.specs.Multiples.{sooner}
+use Rattle.heap.specs.Held.{size, held}
 use Rattle.rules.proofs.Judging.{Walked}
 use Rattle.rules.proofs.exact.walk.Given as goal
 
 abbrev pub invariant-loop-best : goal.invariant-loop-best
 invariant-loop-best l =
-    Good sooner l.heap
-    × (size l.heap ≡ l.place)
+    (size l.heap ≡ l.place)
     × ((met : ℕ) × Walked l.tasks l.place (held l.heap) l.demand l.best.tolerance l.best.moment met)
 
 -- each multiple adds a cost to what is carried, which stays below 10^15
