@@ -6,9 +6,9 @@ ghost use Rattle.rules.specs.Tolerances.{deadline_tolerance};
 ghost use Rattle.rules.specs.Demands.{deadline_agrees, slack_agrees, deadline_kept, slack_falls, deadline_small, slack_low, slack_high};
 
 use crate::answer::Answer;
+use crate::question::Question;
 use crate::rule::Rule;
-use crate::slack::{left, load_of};
-use tasks::timings::Timing;
+use crate::slack::{demand_of, left};
 
 // The slack at the deadline, with no look at any other moment.
 #[derive(Clone, Copy, PartialEq, Eq, Debug)]
@@ -31,14 +31,10 @@ impl Rule for Deadline {
 
     ghost bounded = { λ s ts p a. (slack_low ts p (deadline_at ts p) a (deadline_small ts p), slack_high ts p (deadline_at ts p) (deadline_small ts p)) };
 
-    fn ask(&self, tasks: &[Timing], place: usize) -> Answer {
-        let by = tasks[place - 1].deadline();
-        let mut demand: u64 = 0;
-        for i in 0..place {
-            demand += load_of(&tasks[i], by);
-        }
+    fn ask(&self, question: Question<'_>) -> Answer {
+        let by = question.deadline();
         Answer {
-            tolerance: left(by, demand),
+            tolerance: left(by, demand_of(question.tasks_down(), by)),
             moment: by,
         }
     }

@@ -3,7 +3,7 @@ ghost use Rattle.std.proofs.Common.{ap, ◌∙◌, arith, rules};
 ghost use Rattle.std.proofs.lemmas.Int.{ints};
 ghost use Rattle.heap.specs.Held.{size, room, held};
 ghost use Rattle.rules.specs.Slacks.{slack_at};
-ghost use Rattle.rules.specs.Tables.{Asked, deadline_at};
+ghost use Rattle.rules.specs.Tables.{deadline_at};
 ghost use Rattle.rules.specs.Tolerances.{exact_moment, exact_tolerance, FirstGreatest};
 ghost use Rattle.rules.specs.Walks.{Holds, carried};
 ghost use Rattle.rules.specs.Peaks.{peak};
@@ -12,10 +12,10 @@ ghost use Rattle.rules.specs.PeaksLemmas.{peak_same, peak_from, peak_within, pea
 
 use crate::answer::Answer;
 use crate::multiple::Multiple;
+use crate::question::Question;
 use crate::rule::Rule;
 use crate::slack::left;
 use heap::Heap;
-use tasks::timings::Timing;
 
 // The greatest slack over all moments from 1 to the deadline, and the first moment that has it.
 #[derive(Clone, Copy, PartialEq, Eq, Debug)]
@@ -51,49 +51,48 @@ impl Rule for Exact {
         let within = peak_within (slack_at ts p) d (deadline_first ts p) in
         (slack_low ts p m a (omega arith), slack_high ts p m (omega arith)) };
 
-    fn ask(&self, tasks: &[Timing], place: usize) -> Answer
-        requires { Asked tasks.now place }
-        ensures tolerance { result.tolerance ≡ exact_tolerance tasks.now place }
-        ensures moment { result.moment ≡ exact_moment tasks.now place }
-        ensures greatest { FirstGreatest tasks.now place result.moment }
+    fn ask(&self, question: Question<'_>) -> Answer
+        ensures tolerance { result.tolerance ≡ exact_tolerance question.entry.tasks.now question.entry.place }
+        ensures moment { result.moment ≡ exact_moment question.entry.tasks.now question.entry.place }
+        ensures greatest { FirstGreatest question.entry.tasks.now question.entry.place result.moment }
     {
         let mut slots = [Multiple { at: 0, task: 0 }; 32];
         let mut heap = Heap::new(&mut slots);
-        let demand = release(&mut heap, tasks, place);
-        walk(&mut heap, tasks, place, demand)
+        let first = release(&mut heap, question);
+        walk(&mut heap, question, first)
     }
 }
 
 // Puts the period of each task down to the place into the heap, and gives the demand up to the first of them.
-fn release(heap: &mut Heap<'_, Multiple>, tasks: &[Timing], place: usize) -> u64
-    requires asked { Asked tasks.now place }
+fn release(heap: &mut Heap<'_, Multiple>, question: Question<'_>) -> u64
     requires empty { size heap.old ≡ 0 }
     requires room { room heap.old ≡ 32 }
-    ensures size { size heap.new ≡ place }
-    ensures holds { Holds tasks.now place 0 (held heap.new) }
-    ensures demand { result ≡ sum_by (carried tasks.now) (held heap.new) }
+    ensures size { size heap.new ≡ question.entry.place }
+    ensures holds { Holds question.entry.tasks.now question.entry.place 0 (held heap.new) }
+    ensures demand { result ≡ sum_by (carried question.entry.tasks.now) (held heap.new) }
 {
-    let mut demand: u64 = 0;
-    for i in 0..place {
-        let at = tasks[i].period();
-        demand += u64::from(tasks[i].cost());
-        let _ = heap.push(Multiple { at, task: i });
+    let mut first: u64 = 0;
+    for (i, task) in question.tasks_down().iter().enumerate() {
+        first += u64::from(task.cost());
+        let _ = heap.push(Multiple {
+            at: task.period(),
+            task: i,
+        });
     }
-    demand
+    first
 }
 
 // Goes through the multiples below the deadline in rising order, and then to the deadline. Between one multiple and the next the demand
 // stays, so the slack only grows, and no other moment has to be looked at. It stops as soon as even the deadline, at the demand so far,
 // would have no more than the best.
-fn walk(heap: &mut Heap<'_, Multiple>, tasks: &[Timing], place: usize, first: u64) -> Answer
-    requires asked { Asked tasks.now place }
-    requires size { size heap.old ≡ place }
-    requires holds { Holds tasks.now place 0 (held heap.old) }
-    requires demand { first ≡ sum_by (carried tasks.now) (held heap.old) }
-    ensures tolerance { result.tolerance ≡ exact_tolerance tasks.now place }
-    ensures moment { result.moment ≡ exact_moment tasks.now place }
+fn walk(heap: &mut Heap<'_, Multiple>, question: Question<'_>, first: u64) -> Answer
+    requires size { size heap.old ≡ question.place }
+    requires holds { Holds question.tasks.now question.place 0 (held heap.old) }
+    requires demand { first ≡ sum_by (carried question.tasks.now) (held heap.old) }
+    ensures tolerance { result.tolerance ≡ exact_tolerance question.entry.tasks.now question.entry.place }
+    ensures moment { result.moment ≡ exact_moment question.entry.tasks.now question.entry.place }
 {
-    let deadline = tasks[place - 1].deadline();
+    let deadline = question.deadline();
     let mut demand = first;
     let mut best = Answer {
         tolerance: left(1, demand),
@@ -110,11 +109,11 @@ fn walk(heap: &mut Heap<'_, Multiple>, tasks: &[Timing], place: usize, first: u6
             };
         }
         best = judged(best, next.at, left(next.at, demand));
-        demand += u64::from(tasks[next.task].cost());
-        let at = next.at + tasks[next.task].period();
+        let task = &question.tasks[next.task];
+        demand += u64::from(task.cost());
         let _ = heap.replace_top(Multiple {
-            at,
-            task: next.task,
+            at: next.at + task.period(),
+            ..next
         });
     }
     best

@@ -7,9 +7,9 @@ ghost use Rattle.rules.specs.Layers.{reserved, capped};
 ghost use Rattle.rules.specs.Ints.{reserved_mono, capped_mono};
 
 use crate::answer::Answer;
+use crate::question::Question;
 use crate::rule::Rule;
 use tasks::refusals::Refusal;
-use tasks::timings::Timing;
 
 const LOWEST: i64 = -1_000_000_000_000_000;
 
@@ -65,8 +65,8 @@ impl<R: Rule> Rule for Reserve<R> {
         let high = (R.Rule.bounded s.below ts p a).1 in
         (omega (arith, ints, clamps), omega (arith, ints, clamps)) };
 
-    fn ask(&self, tasks: &[Timing], place: usize) -> Answer {
-        let below = self.below.ask(tasks, place);
+    fn ask(&self, question: Question<'_>) -> Answer {
+        let below = self.below.ask(question);
         let lowered = below.tolerance - i64::from(self.ticks);
         Answer {
             tolerance: if lowered < LOWEST { LOWEST } else { lowered },
@@ -115,8 +115,8 @@ impl<R: Rule> Rule for Cap<R> {
         let high = (R.Rule.bounded s.below ts p a).1 in
         (omega (arith, ints, clamps), omega (arith, ints, clamps)) };
 
-    fn ask(&self, tasks: &[Timing], place: usize) -> Answer {
-        let below = self.below.ask(tasks, place);
+    fn ask(&self, question: Question<'_>) -> Answer {
+        let below = self.below.ask(question);
         let most = i64::from(self.ticks);
         Answer {
             tolerance: if most < below.tolerance {

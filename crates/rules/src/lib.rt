@@ -7,5 +7,6 @@ pub mod exact;
 pub mod figures;
 pub mod layers;
 mod multiple;
+pub mod question;
 pub mod rule;
 mod slack;

@@ -7,5 +7,5 @@ abbrev pub invariant-loop-i : goal.invariant-loop-i
 invariant-loop-i l =
     (size l.heap ≡ l.i)
     × (room l.heap ≡ 32)
-    × Holds l.tasks l.i 0 (held l.heap)
-    × (l.demand ≡ sum_by (carried l.tasks) (held l.heap))
+    × Holds l.fn.question.tasks.now l.i 0 (held l.heap)
+    × (l.first ≡ sum_by (carried l.fn.question.tasks.now) (held l.heap))

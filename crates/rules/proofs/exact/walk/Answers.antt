@@ -12,24 +12,19 @@ use Rattle.rules.specs.Walks.{Next, task_of}
 use Rattle.rules.proofs.Judging.{Walked, sum_small, walk_starts, walk_meets, walk_ends, walk_stops}
 use Rattle.rules.proofs.Steps.{carried_small, least_at}
 use Rattle.rules.proofs.exact.walk.Goals as goal
-use Rattle.rules.proofs.exact.walk.Goals.{After-deadline-deadline, At-loop-best, After-replace_top}
-
-by_is : (c : After-deadline-deadline) → c.deadline-deadline.result ≡ deadline_at c.args.tasks.now c.args.place
-by_is c =
-    let x = c.index-tasks-place.result in
-    c.deadline-deadline.ensures ∙ ap (λ (y : Timing). y.deadline) (get_or_read c.args.tasks.now _ x (omega (arith, c.requires.asked.first, c.requires.asked.last)) c.index-tasks-place.is no_timing)
+use Rattle.rules.proofs.exact.walk.Goals.{At-loop-best, After-replace_top}
 
 demand_fits : (c : At-loop-best) → c.loop-best.demand ≤ 406400000000000
-demand_fits c = sum_small c.args.tasks.now c.args.place _ _ _ _ c.loop-best.invariant.1.0 c.requires.asked c.loop-best.invariant.1.1
+demand_fits c = sum_small c.args.question.tasks.now c.args.question.place _ _ _ _ c.loop-best.invariant.1.0 c.args.question.asked c.loop-best.invariant.1.1
 
 pub left-requires : goal.left-requires
 left-requires c =
-    omega (arith, carried_small c.args.tasks.now c.args.place 0 (held c.args.heap.now) (omega (arith, c.requires.asked.few, c.requires.asked.last)) (omega arith) c.requires.holds, c.requires.demand)
+    omega (arith, carried_small c.args.question.tasks.now c.args.question.place 0 (held c.args.heap.now) (omega (arith, c.args.question.asked.few, c.args.question.asked.last)) (omega arith) c.requires.holds, c.requires.demand)
 
 pub loop-best-init : goal.loop-best-init
 loop-best-init c =
     let is = to_z-of_z w64 c.left.result (record { sfits = c.left.type_inv }) ∙ c.left.ensures in
-    (c.requires.size, (0, walk_starts c.args.tasks.now c.args.place (held c.args.heap.now) c.args.first _ c.requires.holds c.requires.demand is))
+    (c.requires.size, (0, walk_starts c.args.question.tasks.now c.args.question.place (held c.args.heap.now) c.args.first _ c.requires.holds c.requires.demand is))
 
 pub left-requires-in-loop-best : goal.left-requires-in-loop-best
 left-requires-in-loop-best c = demand_fits c
@@ -39,11 +34,11 @@ left-requires-then-deadline-next c = demand_fits (goal.at.left-requires-then-dea
 
 pub returns-then-deadline-next : goal.returns-then-deadline-next
 returns-then-deadline-next c =
-    let ts = c.args.tasks.now in
-    let p = c.args.place in
+    let ts = c.args.question.tasks.now in
+    let p = c.args.question.place in
     let l = c.loop-best in
     let d = c.deadline-deadline.result in
-    let by = by_is (goal.at.returns-then-deadline-next c).After-deadline-deadline in
+    let by = c.deadline-deadline.ensures in
     let least = least_at c.in-Some.next (held l.heap) c.in-Some.ensures.cases.1 in
     let far = All-weaker (λ (z : Multiple). c.in-Some.next.at ≤ z.at) (λ (z : Multiple). deadline_at ts p ≤ z.at) (λ z h. omega (arith, h, by, c.if-deadline-next.true)) (held l.heap) least in
     let slack = ap (λ t. pos t -ℤ pos l.demand) by in
@@ -56,25 +51,28 @@ returns-then-deadline-next c =
 pub left-requires-in-loop-best-2 : goal.left-requires-in-loop-best-2
 left-requires-in-loop-best-2 c = demand_fits (goal.at.left-requires-in-loop-best-2 c).At-loop-best
 
-next_there : (c : After-replace_top) → c.in-Some.next.task < length c.args.tasks.now
+next_there : (c : After-replace_top) → c.in-Some.next.task < length c.args.question.tasks.now
 next_there c =
     let w = c.loop-best.invariant.1.1 in
-    let at = all-has (Next c.args.tasks.now c.args.place c.loop-best.invariant.1.0) (held c.loop-best.heap) c.in-Some.next w.holds.each c.in-Some.ensures.cases.0 in
-    omega (arith, at.there, c.requires.asked.last)
+    let at = all-has (Next c.args.question.tasks.now c.args.question.place c.loop-best.invariant.1.0) (held c.loop-best.heap) c.in-Some.next w.holds.each c.in-Some.ensures.cases.0 in
+    omega (arith, at.there, c.args.question.asked.last)
 
-cost_is : (c : After-replace_top) → c.from-demand.result ≡ (task_of c.args.tasks.now c.in-Some.next).cost
-cost_is c = c.from-demand.ensures ∙ c.cost.ensures ∙ ap (λ (y : Timing). y.cost) (get_or_read c.args.tasks.now c.in-Some.next.task c.index-tasks-next.result (next_there c) c.index-tasks-next.is no_timing)
+task_is : (c : After-replace_top) → c.index-question-next.result ≡ task_of c.args.question.tasks.now c.in-Some.next
+task_is c = get_or_read c.args.question.tasks.now c.in-Some.next.task c.index-question-next.result (next_there c) c.index-question-next.is no_timing
+
+cost_is : (c : After-replace_top) → c.from-demand.result ≡ (task_of c.args.question.tasks.now c.in-Some.next).cost
+cost_is c = let same = ap (λ (y : Timing). y.cost) (task_is c) in search rules
 
 pub loop-best-smaller : goal.loop-best-smaller
 loop-best-smaller c =
     let at = goal.at.loop-best-smaller c in
-    omega (arith, demand_fits at.At-loop-best, cost_is c, (task_of c.args.tasks.now c.in-Some.next).work.0)
+    omega (arith, demand_fits at.At-loop-best, cost_is c, (task_of c.args.question.tasks.now c.in-Some.next).work.0)
 
 pub loop-best-preserved : goal.loop-best-preserved
 loop-best-preserved c =
     let at = goal.at.loop-best-preserved c in
-    let ts = c.args.tasks.now in
-    let p = c.args.place in
+    let ts = c.args.question.tasks.now in
+    let p = c.args.question.place in
     let l = c.loop-best in
     let x = c.in-Some.next in
     let top = c.in-Some.ensures in
@@ -82,9 +80,9 @@ loop-best-preserved c =
     let y : Multiple = record { at = x.at + c.period.result; task = x.task } in
     let gave : c.replace_top.result ≡ Some x = r.value ∙ sym top.value in
     let moved = (MatchOption-at_some _ _ x gave r.held).1 in
-    let period = c.period.ensures ∙ ap (λ (z : Timing). z.period) (get_or_read ts x.task c.index-tasks-next-in-loop-best.result (next_there c) c.index-tasks-next-in-loop-best.is no_timing) in
+    let period : c.period.result ≡ (task_of ts x).period = let same = ap (λ (z : Timing). z.period) (task_is c) in search rules in
     let step = ap (λ n. x.at + n) period in
-    let early : x.at < deadline_at ts p = omega (arith, by_is at.After-deadline-deadline, c.if-deadline-next.false) in
+    let early : x.at < deadline_at ts p = omega (arith, c.deadline-deadline.ensures, c.if-deadline-next.false) in
     let v = to_z-of_z w64 c.left-in-loop-best-2.result (record { sfits = c.left-in-loop-best-2.type_inv }) ∙ c.left-in-loop-best-2.ensures in
     let t = c.judged-best.ensures.tolerance ∙ ap (λ z. cond (lt_z l.best.tolerance z) z l.best.tolerance) v in
     let m = c.judged-best.ensures.moment ∙ ap (λ z. cond (lt_z l.best.tolerance z) x.at l.best.moment) v in
@@ -93,10 +91,10 @@ loop-best-preserved c =
 
 pub returns : goal.returns
 returns c =
-    let ts = c.args.tasks.now in
-    let p = c.args.place in
+    let ts = c.args.question.tasks.now in
+    let p = c.args.question.place in
     let l = c.loop-best in
-    let by = by_is (goal.at.returns c).After-deadline-deadline in
+    let by = c.deadline-deadline.ensures in
     let slack = ap (λ t. pos t -ℤ pos l.demand) by in
     let fits : SFits w64 l.best.tolerance = search rules in
     let no : c.left-in-loop-best.result ≤ℤ l.best.tolerance = let right : SFits w64 c.left-in-loop-best.result = record { sfits = c.left-in-loop-best.type_inv } in let h = simp to_z-of_z at c.loop-best-test.false in grind (arith, ints) in

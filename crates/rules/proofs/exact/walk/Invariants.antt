@@ -5,8 +5,8 @@ use Rattle.rules.proofs.exact.walk.Given as goal
 
 abbrev pub invariant-loop-best : goal.invariant-loop-best
 invariant-loop-best l =
-    (size l.heap ≡ l.place)
-    × ((met : ℕ) × Walked l.tasks l.place (held l.heap) l.demand l.best.tolerance l.best.moment met)
+    (size l.heap ≡ l.question.place)
+    × ((met : ℕ) × Walked l.question.tasks.now l.question.place (held l.heap) l.demand l.best.tolerance l.best.moment met)
 
 -- each multiple adds a cost to what is carried, which stays below 10^15
 abbrev pub decreases-loop-best : goal.decreases-loop-best

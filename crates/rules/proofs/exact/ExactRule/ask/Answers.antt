@@ -8,8 +8,8 @@ use Rattle.rules.proofs.exact.ExactRule.ask.Goals as goal
 
 pub returns : goal.returns
 returns c =
-    let ts = c.args.tasks.now in
-    let p = c.args.place in
+    let ts = c.args.question.tasks.now in
+    let p = c.args.question.place in
     let f = slack_at ts p in
     let d = deadline_at ts p in
     let told : FirstGreatest ts p (exact_moment ts p) = record { from = peak_from f d; to = peak_within f d (deadline_first ts p); greatest = peak_most f d; first = peak_first f d } in
