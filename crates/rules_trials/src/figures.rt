@@ -1,20 +1,32 @@
+ghost use Rattle.std.specs.Prelude.{◌<◌};
+
 use rules::answer::Answer;
 use rules::deadline::Deadline;
 use rules::exact::Exact;
+use rules::question::Question;
 use rules::rule::Rule;
-use std::fmt;
+use std::{array, fmt};
 use tasks::refusals::Refusal;
 use tasks::timings::Timing;
 
 // What both rules tell of one place.
-#[derive(Clone, Copy)]
+#[derive(Clone, Copy, PartialEq, Eq, Debug)]
 struct Line {
     exact: Answer,
     deadline: Answer,
 }
 
+impl Line {
+    fn told(question: Question<'_>) -> Line {
+        Line {
+            exact: Exact.ask(question),
+            deadline: Deadline.ask(question),
+        }
+    }
+}
+
 // The worked figures, as the rules tell them.
-#[derive(Clone, Copy)]
+#[derive(Clone, Copy, PartialEq, Eq, Debug)]
 pub struct Figures {
     four: [Line; 4],
     overloaded: Answer,
@@ -23,17 +35,16 @@ pub struct Figures {
 impl fmt::Display for Figures {
     fn fmt<W: fmt::Write>(&self, f: &mut fmt::Formatter<W>) -> fmt::Result {
         for (i, line) in self.four.iter().enumerate() {
-            let place = i + 1;
-            let exact = line.exact.tolerance;
-            let moment = line.exact.moment;
-            let deadline = line.deadline.tolerance;
             writeln!(
                 f,
-                "place {place}: exact {exact} at {moment}, deadline {deadline}"
+                "place {}: exact {} at {}, deadline {}",
+                i + 1,
+                line.exact.tolerance,
+                line.exact.moment,
+                line.deadline.tolerance
             )?;
         }
-        let overloaded = self.overloaded.tolerance;
-        write!(f, "overloaded: exact {overloaded}")
+        write!(f, "overloaded: exact {}", self.overloaded.tolerance)
     }
 }
 
@@ -46,18 +57,20 @@ pub fn told() -> Result<Figures, Refusal> {
         Timing::new(925, 925, 32)?,
     ];
     let two = [Timing::new(10, 10, 6)?, Timing::new(12, 12, 6)?];
-    let mut lines = [Line {
-        exact: Exact.ask(&four, 1),
-        deadline: Deadline.ask(&four, 1),
-    }; 4];
-    for i in 1..4usize {
-        lines[i] = Line {
-            exact: Exact.ask(&four, i + 1),
-            deadline: Deadline.ask(&four, i + 1),
-        };
-    }
     Ok(Figures {
-        four: lines,
-        overloaded: Exact.ask(&two, 2),
+        four: array::from_fn(
+            |i: usize| -> Line
+                requires { i < 4 }
+            {
+                Line::told(Question {
+                    tasks: &four,
+                    place: i + 1,
+                })
+            },
+        ),
+        overloaded: Exact.ask(Question {
+            tasks: &two,
+            place: 2,
+        }),
     })
 }

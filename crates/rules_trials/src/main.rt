@@ -23,10 +23,7 @@ fn main(rt: HostRuntime) -> io::Result<()> {
             println!(rt; "{figures}")?;
             println!(rt; "{tally}")?;
         }
-        Err(e) => {
-            let number = e.number();
-            println!(rt; "refused: {number}")?;
-        }
+        Err(e) => println!(rt; "refused: {}", e.number())?,
     }
     speed::print(&rt)
 }

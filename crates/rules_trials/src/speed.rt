@@ -1,5 +1,6 @@
 use crate::scan;
 use rules::exact::Exact;
+use rules::question::Question;
 use rules::rule::Rule;
 use std::io;
 use std::rt::Clock;
@@ -22,22 +23,24 @@ fn table(cost: u32) -> Result<[Timing; 4], Refusal> {
 
 // The sum of the exact tolerances of some tables that differ in a cost.
 fn asked() -> Result<i64, Refusal> {
-    let mut sum: i64 = 0;
-    for i in 0..TURNS {
-        let tasks = table(100 + i)?;
-        sum = sum.wrapping_add(Exact.ask(&tasks, 4).tolerance);
-    }
-    Ok(sum)
+    (100..100 + TURNS).try_fold(0, |sum: i64, cost| {
+        let tasks = table(cost)?;
+        let question = Question {
+            tasks: &tasks,
+            place: 4,
+        };
+        Ok(sum.wrapping_add(Exact.ask(question).tolerance))
+    })
 }
 
 // The tolerance of the first of these tables by the plain scan.
 fn scanned() -> Result<i64, Refusal> {
     let tasks = table(100)?;
-    Ok(scan::greatest(&tasks, 4, 1_000_000).tolerance)
+    Ok(scan::greatest(&tasks, 1_000_000).tolerance)
 }
 
 // How long the exact rule took for all its turns and the plain scan for its one, in nanoseconds, and what they told.
-#[derive(Clone, Copy)]
+#[derive(Clone, Copy, PartialEq, Eq, Debug)]
 struct Round {
     exact: u128,
     plain: u128,
@@ -76,8 +79,9 @@ pub fn print(rt: &(impl Print + Eprint + Clock)) -> io::Result<()> {
     } else {
         "no"
     };
-    let tolerance = least.tolerance;
-    let sum = least.sum;
-    println!(rt; "scan {tolerance}, sum of {TURNS} exact {sum}")?;
+    println!(rt;
+        "scan {}, sum of {TURNS} exact {}",
+        least.tolerance, least.sum
+    )?;
     println!(rt; "at least 50 times faster: {answer}")
 }
