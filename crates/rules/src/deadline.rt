@@ -31,6 +31,7 @@ impl Rule for Deadline {
 
     ghost bounded = { λ s ts p a. (slack_low ts p (deadline_at ts p) a (deadline_small ts p), slack_high ts p (deadline_at ts p) (deadline_small ts p)) };
 
+    #[tactic(auto, unfolding(crate::specs::Slacks::slack_at))]
     fn ask(&self, question: Question<'_>) -> Answer {
         let by = question.deadline();
         Answer {

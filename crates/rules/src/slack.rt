@@ -5,6 +5,7 @@ ghost use Rattle.rules.specs.Slacks.{load, demand};
 use tasks::timings::Timing;
 
 // What a task asks for up to a moment: at most 127,000,000 x 100,000.
+#[tactic(auto, unfolding(crate::specs::Slacks::load))]
 pub(crate) fn load_of(task: &Timing, by: u32) -> u64
     requires { by ≤ 1000000 }
     ensures { result ≡ load by task.now }
