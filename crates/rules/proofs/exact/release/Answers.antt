@@ -15,8 +15,8 @@ overflow_add-first c =
     let q = c.args.question in
     let all = length-take-le q.place q.tasks.now q.asked.last in
     let items = ap length c.tasks_down-task-items.ensures in
-    let small = carried_small q.tasks.now l.i 0 (held l.heap) (omega (arith, q.asked.few, q.asked.last)) (omega arith) l.invariant.2 in
-    omega (arith, l.invariant.3, small, c.task-item.result.work.1)
+    let small = carried_small q.tasks.now l.i 0 (held l.heap) (omega (arith, q.asked.few, q.asked.last)) (omega arith) l.invariant.holds in
+    omega (arith, l.invariant.demand, small, c.task-item.result.work.1)
 
 pub loop-i-preserved : goal.loop-i-preserved
 loop-i-preserved c =
@@ -31,12 +31,12 @@ loop-i-preserved c =
     let read = get_or_read ts l.i item there (c.task-item.is ∙ ap (λ (xs : List Timing). get_or xs l.i item) c.tasks_down-task-items.ensures ∙ get_or-take q.place ts l.i item below) no_timing in
     let x : Multiple = record { at = c.period.result; task = l.i } in
     let p = c.push.ensures in
-    let ok : is_ok c.push.result ≡ true = let a = p.test in let b = l.invariant.0 in let d = l.invariant.1 in let e = q.asked.few in let f = q.asked.last in grind (arith, nat_tests) in
+    let ok : is_ok c.push.result ≡ true = let a = p.test in let b = l.invariant.size in let d = l.invariant.room in let e = q.asked.few in let f = q.asked.last in grind (arith, nat_tests) in
     let old = held l.heap in
     let new = c.push.new.self in
     let moved : IsPermutation (x ∷ old) (held new) = subst (λ b. IsPermutation (cond b (x ∷ old) old) (held new)) ok p.held in
     let more : size new ≡ size l.heap + 1 = p.size ∙ ap (λ b. cond b (size l.heap + 1) (size l.heap)) ok in
     let period = c.period.ensures ∙ ap (λ (y : Timing). y.period) read in
     let cost = c.from-first.ensures ∙ c.cost.ensures ∙ ap (λ (y : Timing). y.cost) read in
-    let put = puts ts l.i x old (held new) there refl period moved l.invariant.2 in
-    (omega (arith, more, l.invariant.0), p.room ∙ l.invariant.1, put.0, omega (arith, put.1, l.invariant.3, cost))
+    let put = puts ts l.i x old (held new) there refl period moved l.invariant.holds in
+    record { size = omega (arith, more, l.invariant.size); room = p.room ∙ l.invariant.room; holds = put.0; demand = omega (arith, put.1, l.invariant.demand, cost) }

@@ -12,10 +12,7 @@ use Rattle.rules.specs.Walks.{Next, task_of}
 use Rattle.rules.proofs.Judging.{Walked, sum_small, walk_starts, walk_meets, walk_ends, walk_stops}
 use Rattle.rules.proofs.Steps.{carried_small, least_at}
 use Rattle.rules.proofs.exact.walk.Goals as goal
-use Rattle.rules.proofs.exact.walk.Goals.{At-loop-best, After-replace_top}
-
-demand_fits : (c : At-loop-best) → c.loop-best.demand ≤ 406400000000000
-demand_fits c = sum_small c.args.question.tasks.now c.args.question.place _ _ _ _ c.loop-best.invariant.1.0 c.args.question.asked c.loop-best.invariant.1.1
+use Rattle.rules.proofs.exact.walk.Goals.{After-replace_top}
 
 pub left-requires : goal.left-requires
 left-requires c =
@@ -24,13 +21,8 @@ left-requires c =
 pub loop-best-init : goal.loop-best-init
 loop-best-init c =
     let is = to_z-of_z w64 c.left.result (record { sfits = c.left.type_inv }) ∙ c.left.ensures in
-    (c.requires.size, (0, walk_starts c.args.question.tasks.now c.args.question.place (held c.args.heap.now) c.args.first _ c.requires.holds c.requires.demand is))
-
-pub left-requires-in-loop-best : goal.left-requires-in-loop-best
-left-requires-in-loop-best c = demand_fits c
-
-pub left-requires-then-deadline-next : goal.left-requires-then-deadline-next
-left-requires-then-deadline-next c = demand_fits (goal.at.left-requires-then-deadline-next c).At-loop-best
+    let walked = walk_starts c.args.question.tasks.now c.args.question.place (held c.args.heap.now) c.args.first _ c.requires.holds c.requires.demand is in
+    record { size = c.requires.size; small = sum_small c.args.question.tasks.now c.args.question.place _ _ _ _ 0 c.args.question.asked walked; walked = (0, walked) }
 
 pub returns-then-deadline-next : goal.returns-then-deadline-next
 returns-then-deadline-next c =
@@ -44,17 +36,14 @@ returns-then-deadline-next c =
     let slack = ap (λ t. pos t -ℤ pos l.demand) by in
     let fits : SFits w64 l.best.tolerance = search rules in
     let more : l.best.tolerance <ℤ c.left-in-loop-best.result = let right : SFits w64 c.left-in-loop-best.result = record { sfits = c.left-in-loop-best.type_inv } in let h = simp to_z-of_z at c.loop-best-test.true in grind (arith, ints) in
-    let ends = walk_ends ts p (held l.heap) l.demand l.best.tolerance l.best.moment l.invariant.1.0 far (subst (λ v. l.best.tolerance <ℤ v) (c.left-in-loop-best.ensures ∙ slack) more) l.invariant.1.1 in
+    let ends = walk_ends ts p (held l.heap) l.demand l.best.tolerance l.best.moment l.invariant.walked.0 far (subst (λ v. l.best.tolerance <ℤ v) (c.left-in-loop-best.ensures ∙ slack) more) l.invariant.walked.1 in
     let is = to_z-of_z w64 c.left-then-deadline-next.result (record { sfits = c.left-then-deadline-next.type_inv }) ∙ c.left-then-deadline-next.ensures ∙ slack in
     record { tolerance = is ∙ ends.1; moment = by ∙ ends.0 }
 
-pub left-requires-in-loop-best-2 : goal.left-requires-in-loop-best-2
-left-requires-in-loop-best-2 c = demand_fits (goal.at.left-requires-in-loop-best-2 c).At-loop-best
-
 next_there : (c : After-replace_top) → c.in-Some.next.task < length c.args.question.tasks.now
 next_there c =
-    let w = c.loop-best.invariant.1.1 in
-    let at = all-has (Next c.args.question.tasks.now c.args.question.place c.loop-best.invariant.1.0) (held c.loop-best.heap) c.in-Some.next w.holds.each c.in-Some.ensures.cases.0 in
+    let w = c.loop-best.invariant.walked.1 in
+    let at = all-has (Next c.args.question.tasks.now c.args.question.place c.loop-best.invariant.walked.0) (held c.loop-best.heap) c.in-Some.next w.holds.each c.in-Some.ensures.cases.0 in
     omega (arith, at.there, c.args.question.asked.last)
 
 task_is : (c : After-replace_top) → c.index-question-next.result ≡ task_of c.args.question.tasks.now c.in-Some.next
@@ -65,12 +54,10 @@ cost_is c = let same = ap (λ (y : Timing). y.cost) (task_is c) in search rules
 
 pub loop-best-smaller : goal.loop-best-smaller
 loop-best-smaller c =
-    let at = goal.at.loop-best-smaller c in
-    omega (arith, demand_fits at.At-loop-best, cost_is c, (task_of c.args.question.tasks.now c.in-Some.next).work.0)
+    omega (arith, c.loop-best.invariant.small, cost_is c, (task_of c.args.question.tasks.now c.in-Some.next).work.0)
 
 pub loop-best-preserved : goal.loop-best-preserved
 loop-best-preserved c =
-    let at = goal.at.loop-best-preserved c in
     let ts = c.args.question.tasks.now in
     let p = c.args.question.place in
     let l = c.loop-best in
@@ -86,8 +73,9 @@ loop-best-preserved c =
     let v = to_z-of_z w64 c.left-in-loop-best-2.result (record { sfits = c.left-in-loop-best-2.type_inv }) ∙ c.left-in-loop-best-2.ensures in
     let t = c.judged-best.ensures.tolerance ∙ ap (λ z. cond (lt_z l.best.tolerance z) z l.best.tolerance) v in
     let m = c.judged-best.ensures.moment ∙ ap (λ z. cond (lt_z l.best.tolerance z) x.at l.best.moment) v in
-    let walked = walk_meets ts p x y (held l.heap) (held c.replace_top.new.self) l.demand l.best.tolerance l.best.moment l.invariant.1.0 _ _ top.cases.0 (least_at x (held l.heap) top.cases.1) early refl step moved t m l.invariant.1.1 in
-    (r.size ∙ l.invariant.0, (x.at, subst (λ n. Walked ts p (held c.replace_top.new.self) (l.demand + n) c.judged-best.result.tolerance c.judged-best.result.moment x.at) (sym (cost_is c)) walked))
+    let walked = walk_meets ts p x y (held l.heap) (held c.replace_top.new.self) l.demand l.best.tolerance l.best.moment l.invariant.walked.0 _ _ top.cases.0 (least_at x (held l.heap) top.cases.1) early refl step moved t m l.invariant.walked.1 in
+    let now = subst (λ n. Walked ts p (held c.replace_top.new.self) (l.demand + n) c.judged-best.result.tolerance c.judged-best.result.moment x.at) (sym (cost_is c)) walked in
+    record { size = r.size ∙ l.invariant.size; small = sum_small ts p _ _ _ _ x.at c.args.question.asked now; walked = (x.at, now) }
 
 pub returns : goal.returns
 returns c =
@@ -98,5 +86,5 @@ returns c =
     let slack = ap (λ t. pos t -ℤ pos l.demand) by in
     let fits : SFits w64 l.best.tolerance = search rules in
     let no : c.left-in-loop-best.result ≤ℤ l.best.tolerance = let right : SFits w64 c.left-in-loop-best.result = record { sfits = c.left-in-loop-best.type_inv } in let h = simp to_z-of_z at c.loop-best-test.false in grind (arith, ints) in
-    let stops = walk_stops ts p (held l.heap) l.demand l.best.tolerance l.best.moment l.invariant.1.0 (subst (λ v. v ≤ℤ l.best.tolerance) (c.left-in-loop-best.ensures ∙ slack) no) l.invariant.1.1 in
+    let stops = walk_stops ts p (held l.heap) l.demand l.best.tolerance l.best.moment l.invariant.walked.0 (subst (λ v. v ≤ℤ l.best.tolerance) (c.left-in-loop-best.ensures ∙ slack) no) l.invariant.walked.1 in
     record { tolerance = stops.1; moment = stops.0 }
