@@ -1,9 +1,9 @@
-use Rattle.std.proofs.Common.{◌≡◌, ◌+◌, ◌<◌, ◌≤◌, cond, length, pos, ◌-ℤ◌, ◌≤ℤ◌, ◌<ℤ◌, Some, sym, refl, ap, ◌∙◌, subst, arith, w64, SFits, rules}
+use Rattle.std.proofs.Common.{◌≡◌, ◌+◌, ◌<◌, ◌≤◌, cond, length, pos, ◌-ℤ◌, ◌≤ℤ◌, ◌<ℤ◌, Some, sym, refl, ap, ◌∙◌, subst, arith, w64, rules}
 use lib.Signed.{lt_z}
 use Rattle.std.proofs.ByRecursion.{all-has, All-weaker}
 use Rattle.std.proofs.lemmas.List.{get_or_read}
 use Rattle.std.proofs.lemmas.Option.{MatchOption-at_some}
-use Rattle.std.proofs.lemmas.Int.{ints, to_z-of_z}
+use Rattle.std.proofs.lemmas.Int.{to_z-of_z}
 use Rattle.heap.specs.Held.{held}
 use Rattle.tasks.specs.declared.timings.Timing.{Timing}
 use Rattle.rules.specs.declared.multiple.Multiple.{Multiple}
@@ -34,8 +34,7 @@ returns-then-deadline-next c =
     let least = least_at c.in-Some.next (held l.heap) c.in-Some.ensures.cases.1 in
     let far = All-weaker (λ (z : Multiple). c.in-Some.next.at ≤ z.at) (λ (z : Multiple). deadline_at ts p ≤ z.at) (λ z h. omega (arith, h, by, c.if-deadline-next.true)) (held l.heap) least in
     let slack = ap (λ t. pos t -ℤ pos l.demand) by in
-    let fits : SFits w64 l.best.tolerance = search rules in
-    let more : l.best.tolerance <ℤ c.left-in-loop-best.result = let right : SFits w64 c.left-in-loop-best.result = record { sfits = c.left-in-loop-best.type_inv } in let h = simp to_z-of_z at c.loop-best-test.true in grind (arith, ints) in
+    let more : l.best.tolerance <ℤ c.left-in-loop-best.result = search rules in
     let ends = walk_ends ts p (held l.heap) l.demand l.best.tolerance l.best.moment l.invariant.walked.0 far (subst (λ v. l.best.tolerance <ℤ v) (c.left-in-loop-best.ensures ∙ slack) more) l.invariant.walked.1 in
     let is = to_z-of_z w64 c.left-then-deadline-next.result (record { sfits = c.left-then-deadline-next.type_inv }) ∙ c.left-then-deadline-next.ensures ∙ slack in
     record { tolerance = is ∙ ends.1; moment = by ∙ ends.0 }
@@ -84,7 +83,6 @@ returns c =
     let l = c.loop-best in
     let by = c.deadline-deadline.ensures in
     let slack = ap (λ t. pos t -ℤ pos l.demand) by in
-    let fits : SFits w64 l.best.tolerance = search rules in
-    let no : c.left-in-loop-best.result ≤ℤ l.best.tolerance = let right : SFits w64 c.left-in-loop-best.result = record { sfits = c.left-in-loop-best.type_inv } in let h = simp to_z-of_z at c.loop-best-test.false in grind (arith, ints) in
+    let no : c.left-in-loop-best.result ≤ℤ l.best.tolerance = search rules in
     let stops = walk_stops ts p (held l.heap) l.demand l.best.tolerance l.best.moment l.invariant.walked.0 (subst (λ v. v ≤ℤ l.best.tolerance) (c.left-in-loop-best.ensures ∙ slack) no) l.invariant.walked.1 in
     record { tolerance = stops.1; moment = stops.0 }
