@@ -1,6 +1,5 @@
-use Rattle.std.proofs.Common.{◌≡◌, ◌+◌, ◌<◌, true, cond, ◌∷◌, List, length, get_or, is_ok, refl, ap, ◌∙◌, subst, arith, get_or-take}
+use Rattle.std.proofs.Common.{◌≡◌, ◌+◌, ◌<◌, true, ◌∷◌, List, length, get_or, is_ok, refl, ap, ◌∙◌, arith, rules, get_or-take}
 use Rattle.std.proofs.lemmas.List.{get_or_read, length-take-le}
-use Rattle.std.proofs.lemmas.Bool.Decides.{nat_tests}
 use Rattle.std.specs.List.Sorted.{IsPermutation}
 use Rattle.heap.specs.Held.{size, held}
 use Rattle.tasks.specs.declared.timings.Timing.{Timing}
@@ -31,11 +30,11 @@ loop-i-preserved c =
     let read = get_or_read ts l.i item there (c.task-item.is ∙ ap (λ (xs : List Timing). get_or xs l.i item) c.tasks_down-task-items.ensures ∙ get_or-take q.place ts l.i item below) no_timing in
     let x : Multiple = record { at = c.period.result; task = l.i } in
     let p = c.push.ensures in
-    let ok : is_ok c.push.result ≡ true = let a = p.test in let b = l.invariant.size in let d = l.invariant.room in let e = q.asked.few in let f = q.asked.last in grind (arith, nat_tests) in
+    let ok : is_ok c.push.result ≡ true = search rules in
     let old = held l.heap in
     let new = c.push.new.self in
-    let moved : IsPermutation (x ∷ old) (held new) = subst (λ b. IsPermutation (cond b (x ∷ old) old) (held new)) ok p.held in
-    let more : size new ≡ size l.heap + 1 = p.size ∙ ap (λ b. cond b (size l.heap + 1) (size l.heap)) ok in
+    let moved : IsPermutation (x ∷ old) (held new) = search rules in
+    let more : size new ≡ size l.heap + 1 = search rules in
     let period = c.period.ensures ∙ ap (λ (y : Timing). y.period) read in
     let cost = c.from-first.ensures ∙ c.cost.ensures ∙ ap (λ (y : Timing). y.cost) read in
     let put = puts ts l.i x old (held new) there refl period moved l.invariant.holds in
