@@ -16,9 +16,6 @@ use Rattle.rules.specs.Demands.{deadline_small, deadline_first}
 use Rattle.rules.specs.PeaksLemmas.{lt_lt_z, le_lt_z, peak_most, peak_stays, peak_rises}
 use Rattle.rules.proofs.Steps.{carried_demand, carried_small, demand_carried, replaces}
 
-same_z : (a b : ℤ) → a ≤ℤ b → b ≤ℤ a → a ≡ b
-same_z a b h k = omega (arith, ints)
-
 cond_inside : {X Y : Type 0} (f : X → Y) (b : Bool) (x y : X) → cond b (f x) (f y) ≡ f (cond b x y)
 cond_inside f true x y = refl
 cond_inside f false x y = refl
@@ -51,7 +48,7 @@ module _ (ts : List Timing) (p : ℕ) where
   walk_starts xs sum tolerance a e h =
       let under = slack_under 0 1 xs sum a e (omega arith) in
       let over = slack_over 0 1 xs sum a e (All-weaker (Next ts p 0) (λ x. 1 ≤ x.at) (λ x n. n.some) xs a.each) in
-      record { holds = a; carries = e; early = omega (arith, deadline_first ts p); first = refl; most = h ∙ same_z _ _ over under }
+      record { holds = a; carries = e; early = omega (arith, deadline_first ts p); first = refl; most = omega (arith, ints) }
 
   -- between the multiples the slack rises, and at the last moment of the stretch it is the moment less what is carried
   rises : (met m : ℕ) (xs : List Multiple) (sum : ℕ) → Holds ts p met xs → sum ≡ sum_by (carried ts) xs → AllByRecursion (λ x. m ≤ x.at) xs → (t : ℕ) → met < t → t < m → slack_at ts p t <ℤ slack_at ts p (suc t)
@@ -61,7 +58,7 @@ module _ (ts : List Timing) (p : ℕ) where
       omega (arith, ints)
 
   slack_there : (met m : ℕ) (xs : List Multiple) (sum : ℕ) → Holds ts p met xs → sum ≡ sum_by (carried ts) xs → AllByRecursion (λ x. m ≤ x.at) xs → met < m → (pos m -ℤ pos sum) ≡ slack_at ts p m
-  slack_there met m xs sum a e least h = same_z _ _ (slack_over met m xs sum a e least) (slack_under met m xs sum a e h)
+  slack_there met m xs sum a e least h = let over = slack_over met m xs sum a e least in let under = slack_under met m xs sum a e h in omega (arith, ints)
 
   -- one multiple more
   pub walk_meets : (x y : Multiple) (xs ys : List Multiple) (sum : ℕ) (tolerance : ℤ) (moment met : ℕ) (tolerance' : ℤ) (moment' : ℕ) → Has xs x → AllByRecursion (λ z. x.at ≤ z.at) xs → x.at < deadline_at ts p → y.task ≡ x.task → y.at ≡ x.at + (task_of ts x).period → IsPermutation (y ∷ xs) (x ∷ ys) → tolerance' ≡ cond (lt_z tolerance (pos x.at -ℤ pos sum)) (pos x.at -ℤ pos sum) tolerance → moment' ≡ cond (lt_z tolerance (pos x.at -ℤ pos sum)) x.at moment → Walked ts p xs sum tolerance moment met → Walked ts p ys (sum + (task_of ts x).cost) tolerance' moment' x.at

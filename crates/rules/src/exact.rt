@@ -98,6 +98,7 @@ fn walk(heap: &mut Heap<'_, Multiple>, question: Question<'_>, first: u64) -> An
         tolerance: left(1, demand),
         moment: 1,
     };
+    // The next multiple is known only once this one is replaced in the heap: no iterator goes this way.
     while best.tolerance < left(deadline, demand) {
         let Some(next) = heap.peek() else {
             return best;

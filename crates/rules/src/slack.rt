@@ -30,5 +30,6 @@ pub(crate) fn left(moment: u32, demand: u64) -> i64
     requires { demand ≤ 406400000000000 }
     ensures { result ≡ pos moment -ℤ pos demand }
 {
+    // std has no `From<u64>` for `i64`; what is required keeps the demand below 2^63.
     i64::from(moment) - demand as i64
 }

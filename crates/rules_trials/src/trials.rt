@@ -117,18 +117,16 @@ fn random_tasks(random: &mut Random) -> Result<[Timing; 6], Refusal> {
 
 // Each place of a table of the first 1 to 6 of them.
 fn try_table(random: &mut Random, tally: &mut Tally) -> Result<(), Refusal> {
-    let tasks = random_tasks(random)?;
-    let count = 1 + random.below(6) as usize;
-    for place in 1..=count {
+    let drawn = random_tasks(random)?;
+    // std has no `From<u32>` for `usize`.
+    let tasks = &drawn[..1 + random.below(6) as usize];
+    // A place is a number, and no item of the table.
+    for place in 1..=tasks.len() {
         let pile = Pile {
             reserve: random.below(40),
             cap: random.below(40),
         };
-        let question = Question {
-            tasks: &tasks[..count],
-            place,
-        };
-        tally.note(question, pile)?;
+        tally.note(Question { tasks, place }, pile)?;
     }
     Ok(())
 }
