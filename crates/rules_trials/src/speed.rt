@@ -67,6 +67,7 @@ fn measured(rt: &impl Clock) -> io::Result<Round> {
 // the error output, as it differs from run to run.
 pub fn print(rt: &(impl Print + Eprint + Clock)) -> io::Result<()> {
     let mut least = measured(rt)?;
+    // The rounds are counted: there is no item to go over.
     for _ in 0..4 {
         let round = measured(rt)?;
         least.exact = least.exact.min(round.exact);

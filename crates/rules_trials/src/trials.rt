@@ -104,6 +104,7 @@ pub fn run(tables: u32) -> Result<Tally, Refusal> {
         tables,
         ..Tally::default()
     };
+    // The tables are counted: each is drawn when its turn comes.
     for _ in 0..tables {
         try_table(&mut random, &mut tally)?;
     }
