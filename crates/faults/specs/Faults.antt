@@ -1,5 +1,6 @@
 -- The numbers of refusals and the places that they tell. Assumes nothing.
-use Rattle.std.specs.Prelude.{ℕ, Some, None, Option}
+use Rattle.std.specs.Prelude.{ℕ, List, ◌++◌, Some, None, Option, codes}
+use Rattle.std.specs.Fmt.{decimal}
 use Rattle.faults.specs.declared.fault.CostFault.{CostFault}
 use Rattle.faults.specs.declared.fault.CostFault.TheVariants.{Read, Unknown, Cycle, TooDear}
 use Rattle.faults.specs.declared.fault.LoadFault.{LoadFault}
@@ -59,3 +60,8 @@ abbrev pub load_code : LoadFault → Option ℕ
 load_code (Cost f) = cost_code f
 load_code (FreeBlock at c) = Some c
 load_code NoMemory = None
+
+-- what is shown of a fault: its number, its place, and its code where it has one
+abbrev pub shown : ℕ → ℕ → Option ℕ → List ℕ
+shown n at None = codes "refused " ++ decimal n ++ codes " at " ++ decimal at
+shown n at (Some c) = codes "refused " ++ decimal n ++ codes " at " ++ decimal at ++ codes " code " ++ decimal c

@@ -1,12 +1,15 @@
-// What reading, costing and loading refuse, each case with the place that is told.
-ghost use Rattle.std.specs.Prelude.{◌≡◌};
+// What reading, costing and loading refuse, each case with the place that is told. Each is shown as its number, its place, and its
+// code where it has one.
+ghost use Rattle.std.specs.Prelude.{◌≡◌, Some, None};
 ghost use Rattle.faults.specs.declared.fault.CostFault.TheVariants.{Read};
 ghost use Rattle.faults.specs.declared.fault.LoadFault.TheVariants.{Cost, NoMemory};
-ghost use Rattle.faults.specs.Faults.{read_number, read_place, cost_number, cost_place, cost_code, load_number, load_place, load_code};
+ghost use Rattle.faults.specs.Faults.{read_number, read_place, cost_number, cost_place, cost_code, load_number, load_place, load_code, shown};
 
 use std::alloc::{AllocError, AllocFailed};
+use std::error::Error;
+use std::fmt;
 
-#[derive(Clone, Copy, Debug, PartialEq)]
+#[derive(Clone, Copy, Debug, PartialEq, Eq)]
 pub enum ReadFault {
     // The listing has more than 32,768 bytes.
     TooLong,
@@ -31,8 +34,7 @@ impl ReadFault {
         match self {
             ReadFault::TooLong => 1,
             ReadFault::NotAllowed(_) => 2,
-            ReadFault::Short(_) => 3,
-            ReadFault::Open(_) => 3,
+            ReadFault::Short(_) | ReadFault::Open(_) => 3,
             ReadFault::OutOfRange(_) => 4,
             ReadFault::CodeUsed(_) => 5,
             ReadFault::TooMany(_) => 6,
@@ -44,17 +46,27 @@ impl ReadFault {
     {
         match self {
             ReadFault::TooLong => 0,
-            ReadFault::NotAllowed(at) => at,
-            ReadFault::Short(at) => at,
-            ReadFault::Open(at) => at,
-            ReadFault::OutOfRange(at) => at,
-            ReadFault::CodeUsed(at) => at,
-            ReadFault::TooMany(at) => at,
+            ReadFault::NotAllowed(at)
+            | ReadFault::Short(at)
+            | ReadFault::Open(at)
+            | ReadFault::OutOfRange(at)
+            | ReadFault::CodeUsed(at)
+            | ReadFault::TooMany(at) => at,
         }
     }
 }
 
-#[derive(Clone, Copy, Debug, PartialEq)]
+impl fmt::Display for ReadFault {
+    ghost output = { λ e. Some (shown (read_number e) (read_place e) None) };
+
+    fn fmt<W: fmt::Write>(&self, f: &mut fmt::Formatter<W>) -> fmt::Result {
+        write!(f, "refused {} at {}", self.number(), self.place())
+    }
+}
+
+impl Error for ReadFault {}
+
+#[derive(Clone, Copy, Debug, PartialEq, Eq)]
 pub enum CostFault {
     Read(ReadFault),
     // A call or a block names a code that no routine has.
@@ -90,9 +102,9 @@ impl CostFault {
     {
         match self {
             CostFault::Read(fault) => fault.place(),
-            CostFault::Unknown { at, .. } => at,
-            CostFault::Cycle { at, .. } => at,
-            CostFault::TooDear { at, .. } => at,
+            CostFault::Unknown { at, .. }
+            | CostFault::Cycle { at, .. }
+            | CostFault::TooDear { at, .. } => at,
         }
     }
 
@@ -102,14 +114,31 @@ impl CostFault {
     {
         match self {
             CostFault::Read(_) => None,
-            CostFault::Unknown { code, .. } => Some(code),
-            CostFault::Cycle { routine, .. } => Some(routine),
-            CostFault::TooDear { routine, .. } => Some(routine),
+            CostFault::Unknown { code, .. }
+            | CostFault::Cycle { routine: code, .. }
+            | CostFault::TooDear { routine: code, .. } => Some(code),
         }
     }
 }
 
-#[derive(Clone, Copy, Debug, PartialEq)]
+impl fmt::Display for CostFault {
+    ghost output = { λ e. Some (shown (cost_number e) (cost_place e) (cost_code e)) };
+
+    fn fmt<W: fmt::Write>(&self, f: &mut fmt::Formatter<W>) -> fmt::Result {
+        match self {
+            CostFault::Read(fault) => write!(f, "{fault}"),
+            CostFault::Unknown { at, code }
+            | CostFault::Cycle { at, routine: code }
+            | CostFault::TooDear { at, routine: code } => {
+                write!(f, "refused {} at {at} code {code}", self.number())
+            }
+        }
+    }
+}
+
+impl Error for CostFault {}
+
+#[derive(Clone, Copy, Debug, PartialEq, Eq)]
 pub enum LoadFault {
     Cost(CostFault),
     // A block's routine costs 0.
@@ -137,8 +166,8 @@ impl From<AllocError> for LoadFault {
 impl<T: Drop> From<AllocFailed<T>> for LoadFault {
     ghost from_gives = { λ _ r. r ≡ NoMemory };
 
-    fn from(_: AllocFailed<T>) -> LoadFault {
-        LoadFault::from(AllocError)
+    fn from(e: AllocFailed<T>) -> LoadFault {
+        LoadFault::from(AllocError::from(e))
     }
 }
 
@@ -175,3 +204,21 @@ impl LoadFault {
         }
     }
 }
+
+impl fmt::Display for LoadFault {
+    ghost output = { λ e. Some (shown (load_number e) (load_place e) (load_code e)) };
+
+    fn fmt<W: fmt::Write>(&self, f: &mut fmt::Formatter<W>) -> fmt::Result {
+        match self {
+            LoadFault::Cost(fault) => write!(f, "{fault}"),
+            LoadFault::FreeBlock { at, task } => write!(
+                f,
+                "refused {} at {at} code {task}",
+                self.number()
+            ),
+            LoadFault::NoMemory => write!(f, "refused {} at {}", self.number(), self.place()),
+        }
+    }
+}
+
+impl Error for LoadFault {}
