@@ -6,6 +6,7 @@ use Rattle.commands.specs.declared.table.Row.{Row}
 use Rattle.commands.specs.declared.table.Numbers.{Numbers}
 use Rattle.commands.specs.declared.table.Context.{Context}
 use Rattle.commands.specs.declared.table.Command.{Command}
+use Rattle.commands.proofs.Rows.{narrow, ranged}
 use Rattle.commands.specs.Commands.{row_in, width_of, numbers_of, within, command_of, Front, none, unknown, short, range, a, front_of_row, front_of_numbers, decode, answered, moved, answer, after}
 
 -- the bytes after the one at a place, as the code cuts them
@@ -36,23 +37,26 @@ module _ (context : Context) (bs : List ℕ) (at : ℕ) (inside : at < length bs
       pub at_command : within row n ≡ true → decode context (drop at bs) ≡ a (command_of row.kind n) (1 + w)
       at_command h = read (cond-true _ _ _ h) ∙ ap (λ k. a (command_of row.kind n) (1 + k)) (sym wide)
 
+-- what the tests of the reader say, from its place on
+pub ruleset decoding = (at_end, at_unknown, at_short, at_range, at_command, narrow, ranged)
+
 -- the reader stays at the end of the bytes, and a command's offset is the place where it is read
 stays_by : (f : Front) (at : ℕ) → answered at f ≡ Ok None → moved at f ≡ at
 stays_by none at e = refl
-stays_by unknown at e = let z : ◌≡◌ {A = ℕ} 0 1 = cc in absurd (omega arith)
-stays_by short at e = let z : ◌≡◌ {A = ℕ} 0 1 = cc in absurd (omega arith)
-stays_by range at e = let z : ◌≡◌ {A = ℕ} 0 1 = cc in absurd (omega arith)
-stays_by (a c n) at e = let z : ◌≡◌ {A = ℕ} 0 1 = cc in absurd (omega arith)
+stays_by unknown at e = cc
+stays_by short at e = cc
+stays_by range at e = cc
+stays_by (a c n) at e = cc
 
 pub stays : (context : Context) (bs : List ℕ) (at : ℕ) → answer context bs at ≡ Ok None → after context bs at ≡ at
 unfolding answer after
 stays context bs at e = stays_by (decode context (drop at bs)) at e
 
 here_by : (f : Front) (at p : ℕ) (c : Command) → answered at f ≡ Ok (Some (p, c)) → p ≡ at
-here_by none at p c e = let z : ◌≡◌ {A = ℕ} 0 1 = cc in absurd (omega arith)
-here_by unknown at p c e = let z : ◌≡◌ {A = ℕ} 0 1 = cc in absurd (omega arith)
-here_by short at p c e = let z : ◌≡◌ {A = ℕ} 0 1 = cc in absurd (omega arith)
-here_by range at p c e = let z : ◌≡◌ {A = ℕ} 0 1 = cc in absurd (omega arith)
+here_by none at p c e = cc
+here_by unknown at p c e = cc
+here_by short at p c e = cc
+here_by range at p c e = cc
 here_by (a k n) at p c e = let both : (at, k) ≡ (p, c) = cc in sym (ap (λ (x : ℕ × Command). x.0) both)
 
 pub here : (context : Context) (bs : List ℕ) (at p : ℕ) (c : Command) → answer context bs at ≡ Ok (Some (p, c)) → p ≡ at

@@ -28,26 +28,26 @@ by_numbers context byte rest row c n is enough e =
     (λ good.
     let f : a (command_of row.kind (numbers_of row rest)) (1 + width_of row) ≡ a c n = sym (cond-true _ _ _ good) ∙ e in
     record { byte = byte; rest = rest; row = row; bytes_are = refl; row_is = is; enough = enough; fits = good; command_is = cc; size_is = cc })
-    (λ bad. let f : range ≡ a c n = sym (cond-false _ _ _ bad) ∙ e in let z : ◌≡◌ {A = ℕ} 0 1 = cc in absurd (omega arith))
+    (λ bad. let f : range ≡ a c n = sym (cond-false _ _ _ bad) ∙ e in cc)
     (cases_Bool (within row (numbers_of row rest)))
 
 by_row : (context : Context) (byte : ℕ) (rest : List ℕ) (o : Option Row) (c : Command) (n : ℕ) → row_in context byte ≡ o → front_of_row o rest ≡ a c n → Written context (byte ∷ rest) c n
-by_row context byte rest None c n is e = let z : ◌≡◌ {A = ℕ} 0 1 = cc in absurd (omega arith)
+by_row context byte rest None c n is e = cc
 by_row context byte rest (Some row) c n is e =
     ⊎_elim
-    (λ cut. let f : short ≡ a c n = sym (cond-true _ _ _ cut) ∙ e in let z : ◌≡◌ {A = ℕ} 0 1 = cc in absurd (omega arith))
+    (λ cut. let f : short ≡ a c n = sym (cond-true _ _ _ cut) ∙ e in cc)
     (λ whole. by_numbers context byte rest row c n is (ltb-false _ _ whole) (sym (cond-false _ _ _ whole) ∙ e))
     (cases_Bool (ltb (length rest) (width_of row)))
 
 pub written : (context : Context) (bs : List ℕ) (c : Command) (n : ℕ) → decode context bs ≡ a c n → Written context bs c n
-written context [] c n e = let z : ◌≡◌ {A = ℕ} 0 1 = cc in absurd (omega arith)
+written context [] c n e = cc
 written context (byte ∷ rest) c n e = by_row context byte rest (row_in context byte) c n refl e
 
 front_by : (f : Front) (p at : ℕ) (c : Command) → answered p f ≡ Ok (Some (at, c)) → (n : ℕ) × (f ≡ a c n) × (moved p f ≡ p + n)
-front_by none p at c e = let z : ◌≡◌ {A = ℕ} 0 1 = cc in absurd (omega arith)
-front_by unknown p at c e = let z : ◌≡◌ {A = ℕ} 0 1 = cc in absurd (omega arith)
-front_by short p at c e = let z : ◌≡◌ {A = ℕ} 0 1 = cc in absurd (omega arith)
-front_by range p at c e = let z : ◌≡◌ {A = ℕ} 0 1 = cc in absurd (omega arith)
+front_by none p at c e = cc
+front_by unknown p at c e = cc
+front_by short p at c e = cc
+front_by range p at c e = cc
 front_by (a k n) p at c e = let both : (p, k) ≡ (at, c) = cc in (n, ap (λ x. a x n) (ap (λ (x : ℕ × Command). x.1) both), refl)
 
 -- a command that is read at a place, in the bytes from there on, and the place after it
@@ -60,19 +60,19 @@ read_written context bs p at c e =
 -- codes are bytes
 routine_kind : (k : Kind) (n : Numbers) (c : ℕ) → command_of k n ≡ command.Routine c → n.first ≤ top k → c < 256
 routine_kind kind.Routine n c e h = let same : n.first ≡ c = cc in omega arith
-routine_kind kind.Work n c e h = let z : ◌≡◌ {A = ℕ} 0 1 = cc in absurd (omega arith)
-routine_kind kind.Call n c e h = let z : ◌≡◌ {A = ℕ} 0 1 = cc in absurd (omega arith)
-routine_kind kind.Either n c e h = let z : ◌≡◌ {A = ℕ} 0 1 = cc in absurd (omega arith)
-routine_kind kind.Or n c e h = let z : ◌≡◌ {A = ℕ} 0 1 = cc in absurd (omega arith)
-routine_kind kind.EndEither n c e h = let z : ◌≡◌ {A = ℕ} 0 1 = cc in absurd (omega arith)
-routine_kind kind.Repeat n c e h = let z : ◌≡◌ {A = ℕ} 0 1 = cc in absurd (omega arith)
-routine_kind kind.EndRepeat n c e h = let z : ◌≡◌ {A = ℕ} 0 1 = cc in absurd (omega arith)
-routine_kind kind.EndRoutine n c e h = let z : ◌≡◌ {A = ℕ} 0 1 = cc in absurd (omega arith)
-routine_kind kind.Task n c e h = let z : ◌≡◌ {A = ℕ} 0 1 = cc in absurd (omega arith)
-routine_kind kind.Block n c e h = let z : ◌≡◌ {A = ℕ} 0 1 = cc in absurd (omega arith)
-routine_kind kind.Point n c e h = let z : ◌≡◌ {A = ℕ} 0 1 = cc in absurd (omega arith)
-routine_kind kind.EndTask n c e h = let z : ◌≡◌ {A = ℕ} 0 1 = cc in absurd (omega arith)
-routine_kind kind.Sheet n c e h = let z : ◌≡◌ {A = ℕ} 0 1 = cc in absurd (omega arith)
+routine_kind kind.Work n c e h = cc
+routine_kind kind.Call n c e h = cc
+routine_kind kind.Either n c e h = cc
+routine_kind kind.Or n c e h = cc
+routine_kind kind.EndEither n c e h = cc
+routine_kind kind.Repeat n c e h = cc
+routine_kind kind.EndRepeat n c e h = cc
+routine_kind kind.EndRoutine n c e h = cc
+routine_kind kind.Task n c e h = cc
+routine_kind kind.Block n c e h = cc
+routine_kind kind.Point n c e h = cc
+routine_kind kind.EndTask n c e h = cc
+routine_kind kind.Sheet n c e h = cc
 
 pub small_routine : (context : Context) (bs : List ℕ) (p at c : ℕ) → answer context bs p ≡ Ok (Some (at, command.Routine c)) → c < 256
 small_routine context bs p at c e =
@@ -81,20 +81,20 @@ small_routine context bs p at c e =
     routine_kind x.row.kind (numbers_of x.row x.rest) c x.command_is (ranged context x.byte x.row x.row_is (numbers_of x.row x.rest) x.fits).first
 
 block_kind : (k : Kind) (n : Numbers) (c : ℕ) → command_of k n ≡ command.Block c → n.first ≤ top k → c < 256
-block_kind kind.Routine n c e h = let z : ◌≡◌ {A = ℕ} 0 1 = cc in absurd (omega arith)
-block_kind kind.Work n c e h = let z : ◌≡◌ {A = ℕ} 0 1 = cc in absurd (omega arith)
-block_kind kind.Call n c e h = let z : ◌≡◌ {A = ℕ} 0 1 = cc in absurd (omega arith)
-block_kind kind.Either n c e h = let z : ◌≡◌ {A = ℕ} 0 1 = cc in absurd (omega arith)
-block_kind kind.Or n c e h = let z : ◌≡◌ {A = ℕ} 0 1 = cc in absurd (omega arith)
-block_kind kind.EndEither n c e h = let z : ◌≡◌ {A = ℕ} 0 1 = cc in absurd (omega arith)
-block_kind kind.Repeat n c e h = let z : ◌≡◌ {A = ℕ} 0 1 = cc in absurd (omega arith)
-block_kind kind.EndRepeat n c e h = let z : ◌≡◌ {A = ℕ} 0 1 = cc in absurd (omega arith)
-block_kind kind.EndRoutine n c e h = let z : ◌≡◌ {A = ℕ} 0 1 = cc in absurd (omega arith)
-block_kind kind.Task n c e h = let z : ◌≡◌ {A = ℕ} 0 1 = cc in absurd (omega arith)
+block_kind kind.Routine n c e h = cc
+block_kind kind.Work n c e h = cc
+block_kind kind.Call n c e h = cc
+block_kind kind.Either n c e h = cc
+block_kind kind.Or n c e h = cc
+block_kind kind.EndEither n c e h = cc
+block_kind kind.Repeat n c e h = cc
+block_kind kind.EndRepeat n c e h = cc
+block_kind kind.EndRoutine n c e h = cc
+block_kind kind.Task n c e h = cc
 block_kind kind.Block n c e h = let same : n.first ≡ c = cc in omega arith
-block_kind kind.Point n c e h = let z : ◌≡◌ {A = ℕ} 0 1 = cc in absurd (omega arith)
-block_kind kind.EndTask n c e h = let z : ◌≡◌ {A = ℕ} 0 1 = cc in absurd (omega arith)
-block_kind kind.Sheet n c e h = let z : ◌≡◌ {A = ℕ} 0 1 = cc in absurd (omega arith)
+block_kind kind.Point n c e h = cc
+block_kind kind.EndTask n c e h = cc
+block_kind kind.Sheet n c e h = cc
 
 pub small_block : (context : Context) (bs : List ℕ) (p at c : ℕ) → answer context bs p ≡ Ok (Some (at, command.Block c)) → c < 256
 small_block context bs p at c e =
@@ -104,20 +104,20 @@ small_block context bs p at c e =
 
 -- the ranges of a task's numbers, and of a point's ticks
 task_kind : (k : Kind) (n : Numbers) (c p d : ℕ) → command_of k n ≡ command.Task c p d → Ranged k n → (10 ≤ p) × (p ≤ 1000000) × (1 ≤ d) × (d ≤ p)
-task_kind kind.Routine n c p d e r = let z : ◌≡◌ {A = ℕ} 0 1 = cc in absurd (omega arith)
-task_kind kind.Work n c p d e r = let z : ◌≡◌ {A = ℕ} 0 1 = cc in absurd (omega arith)
-task_kind kind.Call n c p d e r = let z : ◌≡◌ {A = ℕ} 0 1 = cc in absurd (omega arith)
-task_kind kind.Either n c p d e r = let z : ◌≡◌ {A = ℕ} 0 1 = cc in absurd (omega arith)
-task_kind kind.Or n c p d e r = let z : ◌≡◌ {A = ℕ} 0 1 = cc in absurd (omega arith)
-task_kind kind.EndEither n c p d e r = let z : ◌≡◌ {A = ℕ} 0 1 = cc in absurd (omega arith)
-task_kind kind.Repeat n c p d e r = let z : ◌≡◌ {A = ℕ} 0 1 = cc in absurd (omega arith)
-task_kind kind.EndRepeat n c p d e r = let z : ◌≡◌ {A = ℕ} 0 1 = cc in absurd (omega arith)
-task_kind kind.EndRoutine n c p d e r = let z : ◌≡◌ {A = ℕ} 0 1 = cc in absurd (omega arith)
+task_kind kind.Routine n c p d e r = cc
+task_kind kind.Work n c p d e r = cc
+task_kind kind.Call n c p d e r = cc
+task_kind kind.Either n c p d e r = cc
+task_kind kind.Or n c p d e r = cc
+task_kind kind.EndEither n c p d e r = cc
+task_kind kind.Repeat n c p d e r = cc
+task_kind kind.EndRepeat n c p d e r = cc
+task_kind kind.EndRoutine n c p d e r = cc
 task_kind kind.Task n c p d e r = let x : n.second ≡ p = cc in let y : n.third ≡ d = cc in (omega (arith, r.second_at_least), omega (arith, r.second), omega (arith, r.third_at_least), omega (arith, r.rising))
-task_kind kind.Block n c p d e r = let z : ◌≡◌ {A = ℕ} 0 1 = cc in absurd (omega arith)
-task_kind kind.Point n c p d e r = let z : ◌≡◌ {A = ℕ} 0 1 = cc in absurd (omega arith)
-task_kind kind.EndTask n c p d e r = let z : ◌≡◌ {A = ℕ} 0 1 = cc in absurd (omega arith)
-task_kind kind.Sheet n c p d e r = let z : ◌≡◌ {A = ℕ} 0 1 = cc in absurd (omega arith)
+task_kind kind.Block n c p d e r = cc
+task_kind kind.Point n c p d e r = cc
+task_kind kind.EndTask n c p d e r = cc
+task_kind kind.Sheet n c p d e r = cc
 
 pub task_ranges : (context : Context) (bs : List ℕ) (q at c p d : ℕ) → answer context bs q ≡ Ok (Some (at, command.Task c p d)) → (10 ≤ p) × (p ≤ 1000000) × (1 ≤ d) × (d ≤ p)
 task_ranges context bs q at c p d e =
@@ -126,20 +126,20 @@ task_ranges context bs q at c p d e =
     task_kind x.row.kind (numbers_of x.row x.rest) c p d x.command_is (ranged context x.byte x.row x.row_is (numbers_of x.row x.rest) x.fits)
 
 point_kind : (k : Kind) (n : Numbers) (t q : ℕ) → command_of k n ≡ command.Point t q → Ranged k n → t ≤ 1000000
-point_kind kind.Routine n t q e r = let z : ◌≡◌ {A = ℕ} 0 1 = cc in absurd (omega arith)
-point_kind kind.Work n t q e r = let z : ◌≡◌ {A = ℕ} 0 1 = cc in absurd (omega arith)
-point_kind kind.Call n t q e r = let z : ◌≡◌ {A = ℕ} 0 1 = cc in absurd (omega arith)
-point_kind kind.Either n t q e r = let z : ◌≡◌ {A = ℕ} 0 1 = cc in absurd (omega arith)
-point_kind kind.Or n t q e r = let z : ◌≡◌ {A = ℕ} 0 1 = cc in absurd (omega arith)
-point_kind kind.EndEither n t q e r = let z : ◌≡◌ {A = ℕ} 0 1 = cc in absurd (omega arith)
-point_kind kind.Repeat n t q e r = let z : ◌≡◌ {A = ℕ} 0 1 = cc in absurd (omega arith)
-point_kind kind.EndRepeat n t q e r = let z : ◌≡◌ {A = ℕ} 0 1 = cc in absurd (omega arith)
-point_kind kind.EndRoutine n t q e r = let z : ◌≡◌ {A = ℕ} 0 1 = cc in absurd (omega arith)
-point_kind kind.Task n t q e r = let z : ◌≡◌ {A = ℕ} 0 1 = cc in absurd (omega arith)
-point_kind kind.Block n t q e r = let z : ◌≡◌ {A = ℕ} 0 1 = cc in absurd (omega arith)
+point_kind kind.Routine n t q e r = cc
+point_kind kind.Work n t q e r = cc
+point_kind kind.Call n t q e r = cc
+point_kind kind.Either n t q e r = cc
+point_kind kind.Or n t q e r = cc
+point_kind kind.EndEither n t q e r = cc
+point_kind kind.Repeat n t q e r = cc
+point_kind kind.EndRepeat n t q e r = cc
+point_kind kind.EndRoutine n t q e r = cc
+point_kind kind.Task n t q e r = cc
+point_kind kind.Block n t q e r = cc
 point_kind kind.Point n t q e r = let x : n.first ≡ t = cc in omega (arith, r.first)
-point_kind kind.EndTask n t q e r = let z : ◌≡◌ {A = ℕ} 0 1 = cc in absurd (omega arith)
-point_kind kind.Sheet n t q e r = let z : ◌≡◌ {A = ℕ} 0 1 = cc in absurd (omega arith)
+point_kind kind.EndTask n t q e r = cc
+point_kind kind.Sheet n t q e r = cc
 
 pub point_ranges : (context : Context) (bs : List ℕ) (p at t q : ℕ) → answer context bs p ≡ Ok (Some (at, command.Point t q)) → t ≤ 1000000
 point_ranges context bs p at t q e =

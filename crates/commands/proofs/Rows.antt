@@ -1,6 +1,6 @@
--- Steps of the search through a table. Assumes nothing.
-use Rattle.std.proofs.Common.{◌≡◌, ℕ, ◌+◌, ◌<◌, ◌≤◌, Bool, true, ◌&&◌, eqb, leb, List, [], ◌∷◌, length, get_or, drop, Some, None, Option, sym, refl, ap, ◌∙◌, ⊎_elim, arith, eq-eqb, ne_eqb}
-use Rattle.std.proofs.lemmas.List.{at_drop_more, at_drop_all}
+-- What is known of a row that is found. Assumes nothing.
+use Rattle.std.proofs.Common.{◌≡◌, ℕ, ◌≤◌, Bool, true, ◌&&◌, eqb, leb, List, [], ◌∷◌, Some, None, Option, sym, refl, ap, ◌∙◌, ⊎_elim, arith}
+use Rattle.std.specs.List.{list_all}
 use Rattle.std.proofs.lemmas.Bool.{cond-true, cond-false, cases_Bool, and_parts, leb-true}
 use Rattle.commands.specs.declared.table.Row.{Row}
 use Rattle.commands.specs.declared.table.Kind.{Kind}
@@ -9,36 +9,22 @@ use Rattle.commands.specs.declared.table.Numbers.{Numbers}
 use Rattle.commands.specs.declared.table.Context.{Context}
 use Rattle.commands.specs.Commands.{row_of, rows, row_in, allowed, allows, holds, within, top, top_second, Narrow}
 
-pub hit : (xs : List Row) (i b : ℕ) (d : Row) → i < length xs → (get_or xs i d).byte ≡ b → row_of (drop i xs) b ≡ Some (get_or xs i d)
-hit xs i b d h e = at_drop_more (λ l. row_of l b) xs i d h ∙ cond-true _ _ _ (eq-eqb _ b e)
-
-pub miss : (xs : List Row) (i b : ℕ) (d : Row) → i < length xs → ((get_or xs i d).byte ≡ b → ⊥) → row_of (drop (i + 1) xs) b ≡ row_of (drop i xs) b
-miss xs i b d h e = sym (at_drop_more (λ l. row_of l b) xs i d h ∙ cond-false _ _ _ (ne_eqb _ b e))
-
-pub past : (xs : List Row) (i b : ℕ) → length xs ≤ i → row_of (drop i xs) b ≡ None
-past xs i b h = at_drop_all (λ l. row_of l b) xs i h
-
--- a test that each row of a table passes
-abbrev every : (Row → Bool) → List Row → Bool
-every p [] = true
-every p (x ∷ xs) = p x && every p xs
-
 -- the row that is found passes it
-pub found : (p : Row → Bool) (xs : List Row) (b : ℕ) (r : Row) → every p xs ≡ true → row_of xs b ≡ Some r → p r ≡ true
-found p [] b r all e = let z : ◌≡◌ {A = ℕ} 0 1 = cc in absurd (omega arith)
+pub found : (p : Row → Bool) (xs : List Row) (b : ℕ) (r : Row) → list_all p xs ≡ true → row_of xs b ≡ Some r → p r ≡ true
+found p [] b r all e = cc
 found p (x ∷ xs) b r all e =
-    let parts = and_parts (p x) (every p xs) all in
+    let parts = and_parts (p x) (list_all p xs) all in
     ⊎_elim
     (λ same. let q : x ≡ r = cc (sym (cond-true (eqb x.byte b) (Some x) (row_of xs b) same) ∙ e) in ap p (sym q) ∙ parts.0)
     (λ other. found p xs b r parts.1 (sym (cond-false _ _ _ other) ∙ e))
     (cases_Bool (eqb x.byte b))
 
 by_row : (context : Context) (o : Option Row) (r : Row) → allowed context o ≡ Some r → o ≡ Some r
-by_row context None r e = let z : ◌≡◌ {A = ℕ} 0 1 = cc in absurd (omega arith)
+by_row context None r e = cc
 by_row context (Some x) r e =
     ⊎_elim
     (λ same. sym (cond-true (allows x.kind context) (Some x) None same) ∙ e)
-    (λ other. let f = sym (cond-false (allows x.kind context) (Some x) None other) ∙ e in let z : ◌≡◌ {A = ℕ} 0 1 = cc in absurd (omega arith))
+    (λ other. let f = sym (cond-false (allows x.kind context) (Some x) None other) ∙ e in cc)
     (cases_Bool (allows x.kind context))
 
 -- an allowed row is a row of the table

@@ -1,5 +1,6 @@
 -- The commands of a listing and the bytes that write them. Assumes nothing.
 use Rattle.std.specs.Prelude.{ℕ, ◌+◌, ◌*◌, ◌<◌, ◌≤◌, Bool, true, false, cond, ◌&&◌, List, [], ◌∷◌, length, take, drop, Some, None, Ok, Err, Option, Result, ◌==◌, nat_le, nat_lt}
+use Rattle.std.specs.List.{find}
 use Rattle.faults.specs.declared.fault.ReadFault.{ReadFault}
 use Rattle.faults.specs.declared.fault.ReadFault.TheVariants.{NotAllowed, Short, OutOfRange}
 use Rattle.commands.specs.declared.table.Operand.{Operand}
@@ -64,9 +65,9 @@ rows =
     ∷ row 0x42 kind.Sheet nothing nothing nothing
     ∷ []
 
+-- the first row with a byte
 abbrev pub row_of : List Row → ℕ → Option Row
-row_of [] b = None
-row_of (row ∷ rows) b = cond (row.byte == b) (Some row) (row_of rows b)
+row_of rows b = find (λ (row : Row). row.byte == b) rows
 
 -- which contexts allow a command: between routines, after a task, in a routine, where a block is due, after a block
 abbrev contexts : Bool → Bool → Bool → Bool → Bool → Context → Bool

@@ -20,6 +20,7 @@ impl<'a> Reader<'a> {
     }
 
     // The command at the place, with its offset, where the context allows it; none at the end of the bytes.
+    #[tactic(auto, using(crate::proofs::Decoded::decoding), unfolding(crate::specs::Commands::answer, crate::specs::Commands::after))]
     pub fn next(&mut self, context: Context) -> Result<Option<(usize, Command)>, ReadFault>
         ensures same { self.new.bytes.now ≡ self.old.bytes.now }
         ensures moved { self.new.at ≡ after context self.old.bytes.now self.old.at }
@@ -30,9 +31,7 @@ impl<'a> Reader<'a> {
         if at >= self.bytes.len() {
             return Ok(None);
         }
-        let Some(row) = Row::decode(self.bytes[at], context) else {
-            return Err(ReadFault::NotAllowed(at));
-        };
+        let row = Row::decode(self.bytes[at], context).ok_or(ReadFault::NotAllowed(at))?;
         let rest = &self.bytes[at + 1..];
         let width = row.width();
         if rest.len() < width {
@@ -42,7 +41,7 @@ impl<'a> Reader<'a> {
         if !row.holds(numbers) {
             return Err(ReadFault::OutOfRange(at));
         }
-        self.at = at + 1 + width;
+        self.at += 1 + width;
         Ok(Some((at, Command::made(row.kind, numbers))))
     }
 }

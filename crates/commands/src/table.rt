@@ -2,8 +2,9 @@
 ghost use Rattle.std.specs.Prelude.{◌≡◌, ◌+◌, ◌*◌, ◌^◌, ◌<◌, ◌≤◌, length};
 ghost use Rattle.commands.specs.Commands.{rows, row_of, row_in, allows, low, top, top_second, command_of, holds, within, width_of, numbers_of, Narrow};
 
-// What a command does. `Sheet` stands for the commands of sheets, which no listing has.
-#[derive(Clone, Copy)]
+// What a command does, as the table has it: no operands yet, which `Command` has. `Sheet` stands for the commands of sheets, which no
+// listing has.
+#[derive(Clone, Copy, Debug, PartialEq, Eq)]
 pub enum Kind {
     Routine,
     Work,
@@ -22,15 +23,16 @@ pub enum Kind {
 }
 
 // An operand's width in bytes and its range. A command with fewer than three has some of width 0.
-#[derive(Clone, Copy)]
+#[derive(Clone, Copy, Debug, PartialEq, Eq)]
 pub struct Operand {
     pub width: usize,
     pub low: u32,
     pub top: u32,
 }
 
-// A command's byte and its operands. A third operand is at most the second.
-#[derive(Clone, Copy)]
+// A command's byte and its operands. A third operand is at most the second. The operands have names, and are no array: a command is
+// made from each by its place.
+#[derive(Clone, Copy, Debug, PartialEq, Eq)]
 pub struct Row {
     pub byte: u8,
     pub kind: Kind,
@@ -210,7 +212,7 @@ pub const ROWS: [Row; 17] = [
 ];
 
 // The numbers of a command's operands.
-#[derive(Clone, Copy)]
+#[derive(Clone, Copy, Debug, PartialEq, Eq)]
 pub struct Numbers {
     pub first: u32,
     pub second: u32,
@@ -218,7 +220,7 @@ pub struct Numbers {
 }
 
 // Where a command stands in a listing.
-#[derive(Clone, Copy)]
+#[derive(Clone, Copy, Debug, PartialEq, Eq)]
 pub enum Context {
     // Between routines, or before the first task.
     Top,
@@ -232,7 +234,7 @@ pub enum Context {
     AfterBlock,
 }
 
-#[derive(Clone, Copy)]
+#[derive(Clone, Copy, Debug, PartialEq, Eq)]
 pub enum Command {
     Routine(u8),
     Work(u32),
@@ -278,26 +280,15 @@ impl Row {
     pub fn of(byte: u8) -> Option<Row>
         ensures { result ≡ row_of rows byte }
     {
-        for row in ROWS {
-            if row.byte == byte {
-                return Some(row);
-            }
-        }
-        None
+        ROWS.iter().find(|row| row.byte == byte).copied()
     }
 
     // The row of a byte that is a command allowed in a context.
+    #[tactic(auto, unfolding(crate::specs::Commands::row_in))]
     pub fn decode(byte: u8, context: Context) -> Option<Row>
         ensures { result ≡ row_in context byte }
     {
-        let Some(row) = Row::of(byte) else {
-            return None;
-        };
-        if context.allows(row.kind) {
-            Some(row)
-        } else {
-            None
-        }
+        Row::of(byte).filter(|row| context.allows(row.kind))
     }
 
     // How many bytes the operands have.
@@ -309,6 +300,7 @@ impl Row {
     }
 
     // The operands' numbers, from the bytes after the command's.
+    #[tactic(auto, unfolding(crate::specs::Commands::numbers_of))]
     pub(crate) fn numbers(self, bytes: &[u8]) -> Numbers
         requires { (Narrow self) × (width_of self ≤ length bytes.now) }
         ensures { result ≡ numbers_of self bytes.now }
@@ -389,14 +381,6 @@ impl Command {
     }
 }
 
-// The number of a byte and of those after it, which weigh 256 times as much.
-fn joined(first: u8, rest: u32) -> u32
-    requires { rest < 2 ^ 24 }
-    ensures { result ≡ first + 256 * rest }
-{
-    first as u32 + 256 * rest
-}
-
 // The number that the bytes write, low byte first.
 fn number(bytes: &[u8]) -> u32
     requires { length bytes.now ≤ 4 }
@@ -405,6 +389,6 @@ fn number(bytes: &[u8]) -> u32
 {
     match bytes {
         [] => 0,
-        [first, rest @ ..] => joined(*first, number(rest)),
+        [first, rest @ ..] => u32::from(*first) + 256 * number(rest),
     }
 }
