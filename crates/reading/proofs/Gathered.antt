@@ -1,8 +1,7 @@
 -- What one turn of reading routines, or tasks, keeps. Assumes nothing.
-use Rattle.std.proofs.Common.{◌≡◌, ℕ, suc, ◌+◌, ◌-◌, ◌<◌, ◌≤◌, true, false, List, [], ◌∷◌, ◌++◌, map, length, Some, None, Ok, Err, Result, sym, refl, ap, ◌∙◌, subst, arith, le-ltb, lt-ltb, le-leb}
-use borrow.Author.Tests.{lt-leb}
+use Rattle.std.proofs.Common.{◌≡◌, ℕ, suc, ◌+◌, ◌-◌, ◌<◌, ◌≤◌, Bool, true, false, cond, leb, List, [], ◌∷◌, ◌++◌, map, length, Some, None, Ok, Err, Result, sym, refl, ap, ◌∙◌, subst, arith, le-ltb, lt-ltb}
 use Rattle.std.proofs.lemmas.List.{append-nil, append_assoc}
-use Rattle.std.proofs.lemmas.Bool.{cond-true, cond-false}
+use Rattle.std.proofs.lemmas.Bool.{cond-true, cond-false, leb-false}
 use Rattle.faults.specs.declared.fault.ReadFault.{ReadFault}
 use Rattle.faults.specs.declared.fault.ReadFault.TheVariants.{TooLong, NotAllowed, CodeUsed, TooMany}
 use Rattle.commands.specs.declared.table.Command.{Command}
@@ -35,6 +34,29 @@ onto_more seen h (Err f) = refl
 
 onto_end : (seen : List Head) (q : ℕ) → onto seen (Ok ([], q)) ≡ Ok (seen, q)
 onto_end seen q = ap (λ l. Ok (l, q)) (append-nil seen)
+
+-- what the test of one more says
+abbrev pub Admitted : Type 0
+Admitted = Result (Unit {0}) ReadFault
+
+gate_err : {X : Type 0} (a b : Bool) (e g f : ReadFault) (more : Result X ReadFault) → ◌≡◌ {A = Admitted} (Err f) (cond a (Err e) (cond b (Err g) (Ok tt))) → cond a (Err e) (cond b (Err g) more) ≡ Err f
+gate_err true b e g f more h = let p : f ≡ e = cc in ap Err (sym p)
+gate_err false true e g f more h = let p : f ≡ g = cc in ap Err (sym p)
+gate_err false false e g f more h = cc
+
+gate_ok : {X : Type 0} (a b : Bool) (e g : ReadFault) (more : Result X ReadFault) → ◌≡◌ {A = Admitted} (Ok tt) (cond a (Err e) (cond b (Err g) (Ok tt))) → (b ≡ false) × (cond a (Err e) (cond b (Err g) more) ≡ more)
+gate_ok true b e g more h = cc
+gate_ok false true e g more h = cc
+gate_ok false false e g more h = (refl, refl)
+
+admit_refuses : {X : Type 0} (c at : ℕ) (hs : List Head) (f : ReadFault) (more : Result X ReadFault) → ◌≡◌ {A = Admitted} (Err f) (admit c at hs (Ok tt)) → admit c at hs more ≡ Err f
+admit_refuses c at hs f more h = gate_err (used c hs) (leb 32 (length hs)) (CodeUsed at) (TooMany at) f more h
+
+admit_accepts : {X : Type 0} (c at : ℕ) (hs : List Head) (more : Result X ReadFault) → ◌≡◌ {A = Admitted} (Ok tt) (admit c at hs (Ok tt)) → admit c at hs more ≡ more
+admit_accepts c at hs more h = (gate_ok (used c hs) (leb 32 (length hs)) (CodeUsed at) (TooMany at) more h).1
+
+pub admit_room : (c at : ℕ) (hs : List Head) → ◌≡◌ {A = Admitted} (Ok tt) (admit c at hs (Ok tt)) → length hs < 32
+admit_room c at hs h = leb-false _ _ (gate_ok {X = Unit {0}} (used c hs) (leb 32 (length hs)) (CodeUsed at) (TooMany at) (Ok tt) h).0
 
 -- a run that is not ended by 28
 not_closed : {X : Type 0} (c : Command) (t x : X) → (c ≡ command.EndRoutine → ⊥) → by_last x x x t x c ≡ x
@@ -105,40 +127,36 @@ module _ (bs : List ℕ) (seen : List Head) (place : ℕ) (whole : Gathered) (g 
     unfolding body_rule
     is_routine = now_is e
 
-    pub routine_used : used n seen ≡ true → whole ≡ Err (CodeUsed at)
-    routine_used h = is_routine ∙ ap (λ r. onto seen (routine_heads r)) (cond-true _ _ _ h)
+    pub routine_refused : {f : ReadFault} → ◌≡◌ {A = Admitted} (Err f) (admit n at seen (Ok tt)) → whole ≡ Err f
+    routine_refused h = is_routine ∙ ap (λ r. onto seen (routine_heads r)) (admit_refuses n at seen _ _ h)
 
-    module _ (h : used n seen ≡ false) where
-      pub routine_many : 32 ≤ length seen → whole ≡ Err (TooMany at)
-      routine_many k = is_routine ∙ ap (λ r. onto seen (routine_heads r)) (cond-false _ _ _ h ∙ cond-true _ _ _ (le-leb _ _ k))
+    module _ (h : ◌≡◌ {A = Admitted} (Ok tt) (admit n at seen (Ok tt))) where
+      body_is : {r : _} → run_at 9 bs at (after Top bs place) ≡ r → whole ≡ onto seen (routine_heads (then (closed body_rule) r))
+      body_is i = is_routine ∙ ap (λ r. onto seen (routine_heads r)) (admit_accepts n at seen _ h) ∙ ap (λ r. onto seen (routine_heads (then (closed body_rule) r))) i
 
-      module _ (k : length seen < 32) where
-        body_is : {r : _} → run_at 9 bs at (after Top bs place) ≡ r → whole ≡ onto seen (routine_heads (then (closed body_rule) r))
-        body_is i = is_routine ∙ ap (λ r. onto seen (routine_heads r)) (cond-false _ _ _ h ∙ cond-false _ _ _ (lt-leb _ _ k)) ∙ ap (λ r. onto seen (routine_heads (then (closed body_rule) r))) i
+      module _ (of : ℕ → ℕ) where
+        pub body_fault : (f : ReadFault) (q : ℕ) → RunTold of (Err f) q (run_at 9 bs at (after Top bs place)) → whole ≡ Err f
+        body_fault f q t = body_is (run_fault of f q _ t)
 
-        module _ (of : ℕ → ℕ) where
-          pub body_fault : (f : ReadFault) (q : ℕ) → RunTold of (Err f) q (run_at 9 bs at (after Top bs place)) → whole ≡ Err f
-          body_fault f q t = body_is (run_fault of f q _ t)
+        module _ (r : Ran) (q : ℕ) (t : RunTold of (Ok r) q (run_at 9 bs at (after Top bs place))) where
+          pub body_open : (r.last ≡ command.EndRoutine → ⊥) → whole ≡ Err (NotAllowed r.at)
+          body_open o =
+              let u : WasRun of r q (run_at 9 bs at (after Top bs place)) = was_run of r q _ t in
+              body_is u.is ∙ ap (λ s. onto seen (routine_heads s)) (not_closed u.it.last _ _ (λ p. o (u.last_is ∙ p))) ∙ ap (λ m. Err (NotAllowed m)) (sym u.at_is)
 
-          module _ (r : Ran) (q : ℕ) (t : RunTold of (Ok r) q (run_at 9 bs at (after Top bs place))) where
-            pub body_open : (r.last ≡ command.EndRoutine → ⊥) → whole ≡ Err (NotAllowed r.at)
-            body_open o =
-                let u : WasRun of r q (run_at 9 bs at (after Top bs place)) = was_run of r q _ t in
-                body_is u.is ∙ ap (λ s. onto seen (routine_heads s)) (not_closed u.it.last _ _ (λ p. o (u.last_is ∙ p))) ∙ ap (λ m. Err (NotAllowed m)) (sym u.at_is)
-
-            pub body_closed : r.last ≡ command.EndRoutine → place < q → place < length bs → Gathering bs (seen ++ head n at ∷ []) q whole
-            unfolding body_rule
-            body_closed o forth inside =
-                let u : WasRun of r q (run_at 9 bs at (after Top bs place)) = was_run of r q _ t in
-                let it : Ended = u.it in
-                let some : g.left ≡ suc (g.left - 1) = omega (arith, g.enough) in
-                let e = body_is u.is ∙ ap (λ s. onto seen (routine_heads s)) (ap (by_last _ _ _ _ _) (sym u.last_is ∙ o)) in
-                record {
-                  left = g.left - 1;
-                  enough = omega (arith, g.enough);
-                  gives = e ∙ ap (onto seen) (one_routine n at it.run (routines_from bs g.left (seen ++ head n at ∷ []) it.place)) ∙ onto_more seen (head n at) _
-                      ∙ (λ i. onto (seen ++ head n at ∷ []) (routine_heads (routines_from bs (some i) (seen ++ head n at ∷ []) (sym u.place_is i))));
-                }
+          pub body_closed : r.last ≡ command.EndRoutine → place < q → place < length bs → Gathering bs (seen ++ head n at ∷ []) q whole
+          unfolding body_rule
+          body_closed o forth inside =
+              let u : WasRun of r q (run_at 9 bs at (after Top bs place)) = was_run of r q _ t in
+              let it : Ended = u.it in
+              let some : g.left ≡ suc (g.left - 1) = omega (arith, g.enough) in
+              let e = body_is u.is ∙ ap (λ s. onto seen (routine_heads s)) (ap (by_last _ _ _ _ _) (sym u.last_is ∙ o)) in
+              record {
+                left = g.left - 1;
+                enough = omega (arith, g.enough);
+                gives = e ∙ ap (onto seen) (one_routine n at it.run (routines_from bs g.left (seen ++ head n at ∷ []) it.place)) ∙ onto_more seen (head n at) _
+                    ∙ (λ i. onto (seen ++ head n at ∷ []) (routine_heads (routines_from bs (some i) (seen ++ head n at ∷ []) (sym u.place_is i))));
+              }
 
 pub gathered_as : (bs : List ℕ) (seen seen' : List Head) (place : ℕ) (whole : Gathered) → seen ≡ seen' → Gathering bs seen place whole → Gathering bs seen' place whole
 gathered_as bs seen seen' place whole e g = subst (λ s. Gathering bs s place whole) e g
@@ -179,10 +197,10 @@ tasking_as bs seen seen' place whole e g = subst (λ s. Tasking bs s place whole
 -- where a task's blocks end
 pub blocks_were : (q : ℕ) (s : Result (Blocks × ℕ) ReadFault) → Ok q ≡ blocks_end s → (b : Blocks) × (s ≡ Ok (b, q))
 blocks_were q (Ok b) e = let p : q ≡ b.1 = cc in (b.0, ap (λ m. Ok (b.0, m)) (sym p))
-blocks_were q (Err f) e = let z : ◌≡◌ {A = ℕ} 0 1 = cc in absurd (omega arith)
+blocks_were q (Err f) e = cc
 
 pub blocks_fault : (f : ReadFault) (s : Result (Blocks × ℕ) ReadFault) → Err f ≡ blocks_end s → s ≡ Err f
-blocks_fault f (Ok b) e = let z : ◌≡◌ {A = ℕ} 0 1 = cc in absurd (omega arith)
+blocks_fault f (Ok b) e = cc
 blocks_fault f (Err g) e = let p : g ≡ f = cc in ap Err p
 
 module _ (bs : List ℕ) (seen : List Head) (place : ℕ) (whole : Gathered) (g : Tasking bs seen place whole) where
@@ -207,32 +225,28 @@ module _ (bs : List ℕ) (seen : List Head) (place : ℕ) (whole : Gathered) (g 
     unfolding blocks_rule
     is_task = task_now e
 
-    pub task_used : used n seen ≡ true → whole ≡ Err (CodeUsed at)
-    task_used h = is_task ∙ ap (λ r. onto seen (task_heads r)) (cond-true _ _ _ h)
+    pub task_refused : {f : ReadFault} → ◌≡◌ {A = Admitted} (Err f) (admit n at seen (Ok tt)) → whole ≡ Err f
+    task_refused h = is_task ∙ ap (λ r. onto seen (task_heads r)) (admit_refuses n at seen _ _ h)
 
-    module _ (h : used n seen ≡ false) where
-      pub task_many : 32 ≤ length seen → whole ≡ Err (TooMany at)
-      task_many k = is_task ∙ ap (λ r. onto seen (task_heads r)) (cond-false _ _ _ h ∙ cond-true _ _ _ (le-leb _ _ k))
+    module _ (h : ◌≡◌ {A = Admitted} (Ok tt) (admit n at seen (Ok tt))) where
+      blocks_are : {r : _} → blocks_from bs (suc (length bs)) 0 (after Tasks bs place) ≡ r → whole ≡ onto seen (task_heads (then blocks_rule r))
+      blocks_are i = is_task ∙ ap (λ r. onto seen (task_heads r)) (admit_accepts n at seen _ h) ∙ ap (λ r. onto seen (task_heads (then blocks_rule r))) i
 
-      module _ (k : length seen < 32) where
-        blocks_are : {r : _} → blocks_from bs (suc (length bs)) 0 (after Tasks bs place) ≡ r → whole ≡ onto seen (task_heads (then blocks_rule r))
-        blocks_are i = is_task ∙ ap (λ r. onto seen (task_heads r)) (cond-false _ _ _ h ∙ cond-false _ _ _ (lt-leb _ _ k)) ∙ ap (λ r. onto seen (task_heads (then blocks_rule r))) i
+      pub task_blocks_fault : (f : ReadFault) → Err f ≡ blocks_end (blocks_from bs (suc (length bs)) 0 (after Tasks bs place)) → whole ≡ Err f
+      task_blocks_fault f t = blocks_are (blocks_fault f _ t)
 
-        pub task_blocks_fault : (f : ReadFault) → Err f ≡ blocks_end (blocks_from bs (suc (length bs)) 0 (after Tasks bs place)) → whole ≡ Err f
-        task_blocks_fault f t = blocks_are (blocks_fault f _ t)
-
-        pub task_done : (q : ℕ) → Ok q ≡ blocks_end (blocks_from bs (suc (length bs)) 0 (after Tasks bs place)) → place < q → place < length bs → Tasking bs (seen ++ head n at ∷ []) q whole
-        unfolding blocks_rule
-        task_done q t forth inside =
-            let u = blocks_were q (blocks_from bs (suc (length bs)) 0 (after Tasks bs place)) t in
-            let b : Blocks = u.0 in
-            let some : g.left ≡ suc (g.left - 1) = omega (arith, g.enough) in
-            record {
-              left = g.left - 1;
-              enough = omega (arith, g.enough);
-              gives = blocks_are u.1 ∙ ap (onto seen) (one_task n at p d b (tasks_from bs g.left (seen ++ head n at ∷ []) q)) ∙ onto_more seen (head n at) _
-                  ∙ ap (λ m. onto (seen ++ head n at ∷ []) (task_heads (tasks_from bs m (seen ++ head n at ∷ []) q))) some;
-            }
+      pub task_done : (q : ℕ) → Ok q ≡ blocks_end (blocks_from bs (suc (length bs)) 0 (after Tasks bs place)) → place < q → place < length bs → Tasking bs (seen ++ head n at ∷ []) q whole
+      unfolding blocks_rule
+      task_done q t forth inside =
+          let u = blocks_were q (blocks_from bs (suc (length bs)) 0 (after Tasks bs place)) t in
+          let b : Blocks = u.0 in
+          let some : g.left ≡ suc (g.left - 1) = omega (arith, g.enough) in
+          record {
+            left = g.left - 1;
+            enough = omega (arith, g.enough);
+            gives = blocks_are u.1 ∙ ap (onto seen) (one_task n at p d b (tasks_from bs g.left (seen ++ head n at ∷ []) q)) ∙ onto_more seen (head n at) _
+                ∙ ap (λ m. onto (seen ++ head n at ∷ []) (task_heads (tasks_from bs m (seen ++ head n at ∷ []) q))) some;
+          }
 
 pub blocks_there : (b b' : List ℕ) (p p' : ℕ) (r : Result ℕ ReadFault) → b ≡ b' → p ≡ p' → r ≡ blocks_end (blocks_from b (suc (length b)) 0 p) → r ≡ blocks_end (blocks_from b' (suc (length b')) 0 p')
 blocks_there b b' p p' r e f t = t ∙ (λ i. blocks_end (blocks_from (e i) (suc (length (e i))) 0 (f i)))
@@ -242,10 +256,10 @@ pub heads_were : {X : Type 0} (h : X → Head) (hs : List Head) (q : ℕ) (s : R
 heads_were h hs q (Ok xs) e =
     let both : (hs, q) ≡ (map h xs.0, xs.1) = cc in
     (xs.0, ap (λ m. Ok (xs.0, m)) (sym (ap (λ (x : List Head × ℕ). x.1) both)), ap (λ (x : List Head × ℕ). x.0) both)
-heads_were h hs q (Err f) e = let z : ◌≡◌ {A = ℕ} 0 1 = cc in absurd (omega arith)
+heads_were h hs q (Err f) e = cc
 
 pub heads_fault : {X : Type 0} (h : X → Head) (f : ReadFault) (s : Result (List X × ℕ) ReadFault) → Err f ≡ heads_of h s → s ≡ Err f
-heads_fault h f (Ok xs) e = let z : ◌≡◌ {A = ℕ} 0 1 = cc in absurd (omega arith)
+heads_fault h f (Ok xs) e = cc
 heads_fault h f (Err g) e = let p : g ≡ f = cc in ap Err p
 
 -- the whole listing

@@ -1,5 +1,5 @@
+pub mod Spare
 pub mod Turns
-pub mod Known
 pub mod Gathered
 pub mod Blocked
 pub mod Spelled

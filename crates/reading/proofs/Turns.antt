@@ -1,5 +1,6 @@
 -- What one turn of a run, or of an either, keeps. Assumes nothing.
-use Rattle.std.proofs.Common.{◌≡◌, ℕ, zero, suc, ◌+◌, ◌-◌, ◌*◌, ◌<◌, ◌≤◌, min, max, true, false, List, length, Some, None, Ok, Err, Result, sym, refl, ap, ◌∙◌, subst, ⊎_elim, add_assoc, suc-mul, zero-add, zero-mul, arith}
+use Rattle.std.proofs.Common.{◌≡◌, ℕ, zero, suc, ◌+◌, ◌-◌, ◌*◌, ◌<◌, ◌≤◌, min, max, true, false, List, length, Some, None, Ok, Err, Option, Result, sym, refl, ap, ◌∙◌, subst, ⊎_elim, add_assoc, suc-mul, zero-add, zero-mul, arith}
+use Rattle.std.specs.Option.{ok_or}
 use Rattle.std.proofs.lemmas.Bool.{cases_lt, cond-true, cond-false}
 use Rattle.commands.specs.declared.table.Command.{Command}
 use Rattle.commands.specs.declared.table.Command.TheVariants.{Routine, Work, Call, Either, Or, EndEither, Repeat, EndRepeat, EndRoutine, Task, Block, Point, EndTask, Sheet}
@@ -17,9 +18,10 @@ Answer = Result Ended ReadFault
 abbrev pub item_at : ℕ → List ℕ → ℕ → Command → ℕ → Result Parsed ReadFault
 item_at d bs = item_of (run_at d bs) bs
 
--- an Ok is no Err
-clash : {X Y F : Type 0} {x : X} {f : F} → ◌≡◌ {A = Result X F} (Ok x) (Err f) → Y
-clash e = let z : ◌≡◌ {A = ℕ} 0 1 = cc in absurd (omega arith)
+-- the error that `ok_or` leaves
+pub ok_or_err : {X E : Type 0} (o : Option X) (e y : E) → ◌≡◌ {A = Result X E} (Err y) (ok_or o e) → y ≡ e
+ok_or_err None e y h = cc
+ok_or_err (Some x) e y h = cc
 
 -- the cost and the place after an item, and after an either's arms
 abbrev Price : Type 0
@@ -92,15 +94,15 @@ module _ (of : ℕ → ℕ) where
       let says : Ok r ≡ cap_run (ran of (Ok e)) = t.says in
       let p : r ≡ record { cost = min (run_cost of e.run) 1000001; last = e.last; at = e.at } = cc in
       record { it = e; is = refl; cost_is = ap (λ (x : Ran). x.cost) p; last_is = ap (λ (x : Ran). x.last) p; at_is = ap (λ (x : Ran). x.at) p; place_is = t.stands }
-  was_run r q (Err f) t = clash t.says
+  was_run r q (Err f) t = cc
 
   pub run_fault : (f : ReadFault) (q : ℕ) (s : Answer) → RunTold of (Err f) q s → s ≡ Err f
-  run_fault f q (Ok e) t = clash (sym t.says)
+  run_fault f q (Ok e) t = cc
   run_fault f q (Err g) t = let says = t.says in cc
 
   -- what is told of a run that went so
   pub run_err : (s : Answer) (f : ReadFault) (q : ℕ) → gone of s ≡ Err f → RunTold of (Err f) q s
-  run_err (Ok e) f q p = clash p
+  run_err (Ok e) f q p = cc
   run_err (Err g) f q p = let same : g ≡ f = cc in record { says = ap Err (sym same); stands = refl }
 
   pub run_ok : (s : Answer) (r x : Ran) (q m : ℕ) → gone of s ≡ Ok (x, m) → r.cost ≡ min x.cost 1000001 → r.last ≡ x.last → r.at ≡ x.at → q ≡ m → RunTold of (Ok r) q s
@@ -109,15 +111,15 @@ module _ (of : ℕ → ℕ) where
       let y = ap (λ (w : Ran × ℕ). w.0) both in
       let z = ap (λ (w : Ran × ℕ). w.1) both in
       record { says = (λ i. Ok (record { cost = a i; last = b i; at = c i })) ∙ ap (λ (w : Ran). Ok (record { cost = min w.cost 1000001; last = w.last; at = w.at })) (sym y); stands = d ∙ sym z }
-  run_ok (Err f) r x q m p a b c d = clash (sym p)
+  run_ok (Err f) r x q m p a b c d = cc
 
   -- an item's cost and place after it, from what is told
   pub item_was : (r q : ℕ) (s : Result Parsed ReadFault) → ItemTold of (Ok r) q s → (p : Parsed) × (s ≡ Ok p) × (r ≡ min (item_cost of p.item) 1000001) × (q ≡ p.end)
   item_was r q (Ok p) t = let says = t.says in (p, refl, cc, t.stands)
-  item_was r q (Err f) t = clash t.says
+  item_was r q (Err f) t = cc
 
   pub item_fault : (f : ReadFault) (q : ℕ) (s : Result Parsed ReadFault) → ItemTold of (Err f) q s → s ≡ Err f
-  item_fault f q (Ok p) t = clash (sym t.says)
+  item_fault f q (Ok p) t = cc
   item_fault f q (Err g) t = let says = t.says in cc
 
   pub item_ok : (s : Result Parsed ReadFault) (r q n m : ℕ) → price of s ≡ Ok (n, m) → r ≡ min n 1000001 → q ≡ m → ItemTold of (Ok r) q s
@@ -126,10 +128,10 @@ module _ (of : ℕ → ℕ) where
       let x = ap (λ (w : ℕ × ℕ). w.0) both in
       let y = ap (λ (w : ℕ × ℕ). w.1) both in
       record { says = ap Ok (a ∙ ap (λ k. min k 1000001) (sym x)); stands = b ∙ sym y }
-  item_ok (Err f) r q n m e a b = clash (sym e)
+  item_ok (Err f) r q n m e a b = cc
 
   pub item_err : (s : Result Parsed ReadFault) (f : ReadFault) (q : ℕ) → price of s ≡ Err f → ItemTold of (Err f) q s
-  item_err (Ok p) f q e = clash e
+  item_err (Ok p) f q e = cc
   item_err (Err g) f q e = let same : g ≡ f = cc in record { says = ap Err (sym same); stands = refl }
 
 -- a cap before a product changes nothing under the same cap

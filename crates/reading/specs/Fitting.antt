@@ -1,5 +1,6 @@
 -- Trees within the ranges and counts. Assumes nothing.
-use Rattle.std.specs.Prelude.{◌≡◌, ℕ, suc, ◌+◌, ◌<◌, ◌≤◌, max, Bool, true, false, cond, List, [], ◌∷◌, ◌++◌, length, Ok, Err, Result, ◌==◌, ◌≢◌}
+use Rattle.std.specs.Prelude.{◌≡◌, ℕ, suc, ◌+◌, ◌<◌, ◌≤◌, max, Bool, false, List, [], ◌∷◌, ◌++◌, length, Ok, Err, Result, ◌==◌, ◌≢◌}
+use Rattle.std.specs.List.{list_any}
 use Rattle.faults.specs.declared.fault.ReadFault.{ReadFault}
 use Rattle.reading.specs.declared.outline.Outline.{Outline}
 use Rattle.reading.specs.Encoding.{encode}
@@ -38,8 +39,7 @@ abbrev mutual
   nest_arms (more r a) = max (nest_run r) (nest_arms a)
 
 abbrev pub member : ℕ → List ℕ → Bool
-member c [] = false
-member c (x ∷ xs) = cond (x == c) true (member c xs)
+member c xs = list_any (λ x. x == c) xs
 
 -- at most 32, each with a code of its own, after those with the codes seen
 abbrev pub FitsRoutines : List ℕ → List Routine → Type 0

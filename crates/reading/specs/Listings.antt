@@ -9,7 +9,7 @@ use Rattle.reading.specs.declared.heads.Head.{Head}
 use Rattle.reading.specs.declared.heads.Heads.{Heads}
 use Rattle.reading.specs.declared.outline.Outline.{Outline}
 use Rattle.commands.specs.Commands.{answer, after}
-use Rattle.reading.specs.Heads.{head, held, used}
+use Rattle.reading.specs.Heads.{head, used}
 use Rattle.reading.specs.Trees.{Run, Routine, Blocks, final, block, Task, Listing}
 use Rattle.reading.specs.Runs.{Ended, then, by_last, run_at}
 
@@ -109,7 +109,7 @@ outline_of (Ok l) = Ok (map routine_head l.routines, map task_head l.tasks)
 outline_of (Err f) = Err f
 
 abbrev pub told : Result Outline ReadFault → Result (List Head × List Head) ReadFault
-told (Ok o) = Ok (held o.routines, held o.tasks)
+told (Ok o) = Ok (o.routines, o.tasks)
 told (Err f) = Err f
 
 -- the heads of routines, or of tasks, and the place after them
@@ -124,7 +124,7 @@ abbrev pub task_heads : Result (List Task × ℕ) ReadFault → Result (List Hea
 task_heads = heads_of task_head
 
 abbrev pub heads_at : Result Heads ReadFault → ℕ → Result (List Head × ℕ) ReadFault
-heads_at (Ok hs) place = Ok (held hs, place)
+heads_at (Ok hs) place = Ok (hs, place)
 heads_at (Err f) place = Err f
 
 -- the place after a task's blocks

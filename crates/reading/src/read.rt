@@ -21,26 +21,20 @@ fn read_routines(reader: &mut Reader) -> Result<Heads, ReadFault>
     ensures told { heads_at result reader.new.at ≡ routine_heads (routines_from reader.old.bytes.now (suc (length reader.old.bytes.now)) [] reader.old.at) }
 {
     let mut heads = Heads::new();
-    'routines: loop {
-        let Some((at, command)) = reader.next(Context::Top)? else {
-            return Ok(heads);
-        };
+    'routines: while let Some((at, command)) = reader.next(Context::Top)? {
         let Command::Routine(code) = command else {
             reader.at = at;
             return Ok(heads);
         };
-        if heads.contains(code) {
-            return Err(ReadFault::CodeUsed(at));
-        }
-        if heads.len() >= 32 {
-            return Err(ReadFault::TooMany(at));
-        }
+        let head = Head { code, at };
+        heads.admit(head)?;
         let ran = cost_run(reader, &NO_COSTS, at, 9)?;
         let Command::EndRoutine = ran.last else {
             return Err(ReadFault::NotAllowed(ran.at));
         };
-        heads.add(Head { code, at });
+        heads.add(head);
     }
+    Ok(heads)
 }
 
 // The blocks and points of a task, to its end.
@@ -51,9 +45,9 @@ fn read_blocks(reader: &mut Reader) -> Result<(), ReadFault>
 {
     let mut count = 0usize;
     'turns: loop {
-        let Some((at, command)) = reader.next(Context::BlockDue)? else {
-            return Err(ReadFault::Open(reader.bytes.len()));
-        };
+        let (at, command) = reader
+            .next(Context::BlockDue)?
+            .ok_or(ReadFault::Open(reader.bytes.len()))?;
         let Command::Block(_) = command else {
             return Err(ReadFault::NotAllowed(at));
         };
@@ -61,9 +55,9 @@ fn read_blocks(reader: &mut Reader) -> Result<(), ReadFault>
             return Err(ReadFault::TooMany(at));
         }
         count += 1;
-        let Some((place, follower)) = reader.next(Context::AfterBlock)? else {
-            return Err(ReadFault::Open(reader.bytes.len()));
-        };
+        let (place, follower) = reader
+            .next(Context::AfterBlock)?
+            .ok_or(ReadFault::Open(reader.bytes.len()))?;
         match follower {
             Command::Point { .. } => {}
             Command::EndTask => return Ok(()),
@@ -78,22 +72,16 @@ fn read_tasks(reader: &mut Reader) -> Result<Heads, ReadFault>
     ensures told { heads_at result reader.new.at ≡ task_heads (tasks_from reader.old.bytes.now (suc (length reader.old.bytes.now)) [] reader.old.at) }
 {
     let mut heads = Heads::new();
-    'tasks: loop {
-        let Some((at, command)) = reader.next(Context::Tasks)? else {
-            return Ok(heads);
-        };
+    'tasks: while let Some((at, command)) = reader.next(Context::Tasks)? {
         let Command::Task { code, .. } = command else {
             return Err(ReadFault::NotAllowed(at));
         };
-        if heads.contains(code) {
-            return Err(ReadFault::CodeUsed(at));
-        }
-        if heads.len() >= 32 {
-            return Err(ReadFault::TooMany(at));
-        }
+        let head = Head { code, at };
+        heads.admit(head)?;
         read_blocks(reader)?;
-        heads.add(Head { code, at });
+        heads.add(head);
     }
+    Ok(heads)
 }
 
 // Reads a listing: the first fault in it, or the heads of its routines and tasks.

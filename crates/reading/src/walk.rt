@@ -8,7 +8,7 @@ use commands::table::{Command, Context};
 use faults::fault::ReadFault;
 
 // A run's cost, the command that ended it, and that command's offset.
-#[derive(Clone, Copy)]
+#[derive(Clone, Copy, Debug, PartialEq, Eq)]
 pub struct Ran {
     pub cost: u32,
     pub last: Command,
@@ -18,24 +18,17 @@ pub struct Ran {
 // One above the greatest cost that is accepted.
 pub const ABOVE: u64 = 1_000_001;
 
-fn capped(cost: u64) -> u32
-    ensures { result ≡ min cost 1000001 }
-{
-    cost.min(ABOVE) as u32
-}
-
 // The cost so far with that of one more item.
 fn added(total: u32, cost: u32) -> u32
     ensures { result ≡ min (total + cost) 1000001 }
 {
-    capped(total as u64 + cost as u64)
+    capped(u64::from(total) + u64::from(cost))
 }
 
-// The dearer of two arms.
-fn dearer(arm: u32, best: u32) -> u32
-    ensures { result ≡ max arm best }
+fn capped(cost: u64) -> u32
+    ensures { result ≡ min cost 1000001 }
 {
-    arm.max(best)
+    cost.min(ABOVE) as u32
 }
 
 fn ends_run(command: Command) -> bool
@@ -64,9 +57,9 @@ pub fn cost_run(
     }
     let mut total = 0;
     'items: loop {
-        let Some((at, command)) = reader.next(Context::Body)? else {
-            return Err(ReadFault::Open(reader.bytes.len()));
-        };
+        let (at, command) = reader
+            .next(Context::Body)?
+            .ok_or(ReadFault::Open(reader.bytes.len()))?;
         if ends_run(command) {
             return Ok(Ran {
                 cost: total,
@@ -93,12 +86,12 @@ fn cost_item(
     ensures within { IfOk result (λ p. (p ≤ 1000001) × (reader.old.at ≤ reader.new.at)) }
 {
     match command {
-        Command::Work(ticks) => Ok(capped(ticks as u64)),
-        Command::Call(code) => Ok(capped(costs[code as usize] as u64)),
+        Command::Work(ticks) => Ok(capped(u64::from(ticks))),
+        Command::Call(code) => Ok(capped(u64::from(costs[usize::from(code)]))),
         Command::Repeat(turns) => {
             let ran = cost_run(reader, costs, at, depth)?;
             match ran.last {
-                Command::EndRepeat => Ok(capped(turns as u64 * ran.cost as u64)),
+                Command::EndRepeat => Ok(capped(u64::from(turns) * u64::from(ran.cost))),
                 _ => Err(ReadFault::NotAllowed(ran.at)),
             }
         }
@@ -106,7 +99,7 @@ fn cost_item(
             let mut best = 0;
             'arms: loop {
                 let ran = cost_run(reader, costs, at, depth)?;
-                best = dearer(ran.cost, best);
+                best = ran.cost.max(best);
                 match ran.last {
                     Command::Or => {}
                     Command::EndEither => return Ok(best),

@@ -1,9 +1,10 @@
-use Rattle.std.proofs.Common.{◌≡◌, ◌<◌, ◌≤◌, length, Some, Ok, Err, sym, refl, ap, ◌∙◌, arith, rules}
+use Rattle.std.proofs.Common.{◌<◌, ◌≤◌, length, Ok, Err, sym, refl, ap, ◌∙◌, arith, rules}
 use Rattle.std.proofs.lemmas.Result.{err_from_is_err_and}
 use Rattle.commands.specs.declared.table.Context.TheVariants.{Body}
 use Rattle.faults.specs.declared.fault.ReadFault.TheVariants.{Open}
 use Rattle.commands.specs.Commands.{answer, after}
-use Rattle.reading.proofs.Turns.{run_err, item_err, told_there, item_there, item_by, start, at_open, at_fault, at_end, at_item_fault, at_item, too_deep, first_arm, arm_fault, arm_last, arm_none, arm_next, turns_last}
+use Rattle.commands.proofs.Decoded.{read_there}
+use Rattle.reading.proofs.Turns.{ok_or_err, run_err, item_err, told_there, item_there, item_by, start, at_open, at_fault, at_end, at_item_fault, at_item, too_deep, first_arm, arm_fault, arm_last, arm_none, arm_next, turns_last}
 use Rattle.reading.proofs.walk.+cost_item_cost_run.Goals as goal
 
 pub cost_run-returns-then-depth-eq0 : goal.cost_run-returns-then-depth-eq0
@@ -12,29 +13,27 @@ cost_run-returns-then-depth-eq0 t c = record { same = refl; told = too_deep _ _ 
 pub cost_run-items-init : goal.cost_run-items-init
 cost_run-items-init t c = (refl, omega arith, omega arith, start _ _ _ _ _ (omega arith))
 
-pub cost_run-returns-in_err-at : goal.cost_run-returns-in_err-at
-cost_run-returns-in_err-at t c =
+pub cost_run-returns-in_err-next-clause-told : goal.cost_run-returns-in_err-next-clause-told
+cost_run-returns-in_err-next-clause-told t c =
     let p = err_from_is_err_and c.from_residual.result c.from_residual.ensures.1 in
-    let n = c.in_err-at.ensures in
+    let n = c.in_err-next.ensures in
     let bs = c.items.invariant.0 in
-    rw (p.1, p.2)
-    (record { same = n.same ∙ bs; told = run_err _ _ _ _ (at_fault _ _ _ _ _ _ c.items.invariant.3 (sym (n.told ∙ ap (λ b. answer Body b c.items.reader.at) bs))); within = tt })
+    rw (p.1, p.2) (run_err _ _ _ _ (at_fault _ _ _ _ _ _ c.items.invariant.3 (sym (n.told ∙ ap (λ b. answer Body b c.items.reader.at) bs))))
 
-pub cost_run-returns-in_default : goal.cost_run-returns-in_default
-cost_run-returns-in_default t c =
-    let n = c.in_ok-at.ensures in
+pub cost_run-returns-in_err-at-clause-told : goal.cost_run-returns-in_err-at-clause-told
+cost_run-returns-in_err-at-clause-told t c =
+    let p = err_from_is_err_and c.from_residual-in_err-at.result c.from_residual-in_err-at.ensures.1 in
+    let n = c.in_ok-next.ensures in
     let bs = c.items.invariant.0 in
-    record {
-      same = n.same ∙ bs;
-      told = run_err _ _ _ _ (at_open _ _ _ _ _ _ c.items.invariant.3 (sym (n.told ∙ ap (λ b. answer Body b c.items.reader.at) bs) ∙ ap Ok c.in_default.is) ∙ ap (λ b. Err (Open (length b))) (sym (n.same ∙ bs)));
-      within = tt;
-    }
+    let o = c.in_err-at.ensures in
+    rw (p.1, p.2)
+    (run_err _ _ _ _ (at_open _ _ _ _ _ _ c.items.invariant.3 (sym (n.told ∙ ap (λ b. answer Body b c.items.reader.at) bs) ∙ ap Ok o.ok_part) ∙ ap Err (ap (λ b. Open (length b)) (sym (n.same ∙ bs)) ∙ sym (ok_or_err _ _ _ o.value))))
 
 pub cost_run-returns-then-ends_run : goal.cost_run-returns-then-ends_run
 cost_run-returns-then-ends_run t c =
-    let n = c.in_ok-at.ensures in
+    let n = c.in_ok-next.ensures in
     let bs = c.items.invariant.0 in
-    let e : answer Body c.args.reader.now.bytes.now c.items.reader.at ≡ Ok (Some (c.in-Some.at, c.in-Some.command)) = sym (n.told ∙ ap (λ b. answer Body b c.items.reader.at) bs) ∙ ap Ok c.in-Some.is in
+    let e = read_there _ _ c.args.reader.now.bytes.now _ _ _ _ n.told bs c.in_ok-at.ensures.ok_part in
     let long = ap length bs in
     record {
       same = n.same ∙ bs;
@@ -42,27 +41,22 @@ cost_run-returns-then-ends_run t c =
       within = search (rules, long);
     }
 
-pub cost_run-returns-in_err-cost : goal.cost_run-returns-in_err-cost
-cost_run-returns-in_err-cost t c =
+pub cost_run-returns-in_err-cost-clause-told : goal.cost_run-returns-in_err-cost-clause-told
+cost_run-returns-in_err-cost-clause-told t c =
     let p = err_from_is_err_and c.from_residual-in_err-cost.result c.from_residual-in_err-cost.ensures.1 in
-    let n = c.in_ok-at.ensures in
+    let n = c.in_ok-next.ensures in
     let i = c.in_err-cost.ensures in
     let bs = c.items.invariant.0 in
-    let e : answer Body c.args.reader.now.bytes.now c.items.reader.at ≡ Ok (Some (c.in-Some.at, c.in-Some.command)) = sym (n.told ∙ ap (λ b. answer Body b c.items.reader.at) bs) ∙ ap Ok c.in-Some.is in
+    let e = read_there _ _ c.args.reader.now.bytes.now _ _ _ _ n.told bs c.in_ok-at.ensures.ok_part in
     let on = n.moved ∙ ap (λ b. after Body b c.items.reader.at) bs in
-    rw (p.1, p.2)
-    (record {
-      same = i.same ∙ n.same ∙ bs;
-      told = run_err _ _ _ _ (at_item_fault _ _ _ _ _ _ c.items.invariant.3 _ _ e (sym c.if-ends_run.ensures) _ _ (item_there _ _ _ _ _ _ _ _ _ _ (n.same ∙ bs) on i.told));
-      within = tt;
-    })
+    rw (p.1, p.2) (run_err _ _ _ _ (at_item_fault _ _ _ _ _ _ c.items.invariant.3 _ _ e (sym c.if-ends_run.ensures) _ _ (item_there _ _ _ _ _ _ _ _ _ _ (n.same ∙ bs) on i.told)))
 
 pub cost_run-items-preserved : goal.cost_run-items-preserved
 cost_run-items-preserved t c =
-    let n = c.in_ok-at.ensures in
+    let n = c.in_ok-next.ensures in
     let i = c.in_ok-cost.ensures in
     let bs = c.items.invariant.0 in
-    let e : answer Body c.args.reader.now.bytes.now c.items.reader.at ≡ Ok (Some (c.in-Some.at, c.in-Some.command)) = sym (n.told ∙ ap (λ b. answer Body b c.items.reader.at) bs) ∙ ap Ok c.in-Some.is in
+    let e = read_there _ _ c.args.reader.now.bytes.now _ _ _ _ n.told bs c.in_ok-at.ensures.ok_part in
     let on = n.moved ∙ ap (λ b. after Body b c.items.reader.at) bs in
     let long = ap length bs in
     let forth : (c.items.reader.at < c.next.new.self.at) × (c.next.new.self.at ≤ length c.items.reader.bytes.now) = search rules in (
@@ -95,8 +89,8 @@ cost_item-arms-preserved t c =
     let long = ap length bs in (
       n.same ∙ bs,
       omega (arith, n.within, c.arms.invariant.1),
-      omega (arith, n.within, c.dearer-best.ensures, c.arms.invariant.2),
-      rw c.dearer-best.ensures (arm_next _ _ _ _ _ _ _ c.arms.invariant.3 _ _ (told_there _ _ _ _ _ _ _ _ _ bs refl n.told) c.in-Or.is n.within.1 (omega (arith, n.within))),
+      omega (arith, n.within, c.max-best.ensures, c.arms.invariant.2),
+      rw c.max-best.ensures (arm_next _ _ _ _ _ _ _ c.arms.invariant.3 _ _ (told_there _ _ _ _ _ _ _ _ _ bs refl n.told) c.in-Or.is n.within.1 (omega (arith, n.within))),
     )
 
 pub cost_item-returns-in-EndEither : goal.cost_item-returns-in-EndEither
@@ -105,8 +99,8 @@ cost_item-returns-in-EndEither t c =
     let bs = c.arms.invariant.0 in
     record {
       same = n.same ∙ bs;
-      told = item_by _ _ _ _ _ _ _ _ _ c.in-Either.is (rw c.dearer-best.ensures (arm_last _ _ _ _ _ _ _ c.arms.invariant.3 _ _ (told_there _ _ _ _ _ _ _ _ _ bs refl n.told) c.in-EndEither.is));
-      within = omega (arith, n.within, c.dearer-best.ensures, c.arms.invariant.1, c.arms.invariant.2);
+      told = item_by _ _ _ _ _ _ _ _ _ c.in-Either.is (rw c.max-best.ensures (arm_last _ _ _ _ _ _ _ c.arms.invariant.3 _ _ (told_there _ _ _ _ _ _ _ _ _ bs refl n.told) c.in-EndEither.is));
+      within = omega (arith, n.within, c.max-best.ensures, c.arms.invariant.1, c.arms.invariant.2);
     }
 
 pub cost_item-returns-in_default-last-2 : goal.cost_item-returns-in_default-last-2
@@ -124,6 +118,6 @@ cost_item-returns-in-EndRepeat t c =
     let n = c.in_ok-ran-in-Repeat.ensures in
     record {
       same = n.same;
-      told = turns_last _ _ _ _ _ _ _ c.in-Repeat.is _ _ n.told _ c.in-EndRepeat.is c.capped-in-EndRepeat.ensures;
+      told = turns_last _ _ _ _ _ _ _ c.in-Repeat.is _ _ n.told _ c.in-EndRepeat.is (rw (c.from-in-EndRepeat.ensures, c.from-in-EndRepeat-2.ensures) at c.capped-in-EndRepeat.ensures);
       within = omega (arith, n.within, c.capped-in-EndRepeat.ensures);
     }
