@@ -13,7 +13,6 @@ use Rattle.faults.specs.declared.fault.LoadFault.TheVariants.{Cost, FreeBlock, N
 use Rattle.reading.specs.declared.heads.Head.{Head}
 use Rattle.listing.specs.declared.cost.Costs.{Costs}
 use Rattle.reading.specs.Bodies.{TaskRead}
-use Rattle.reading.specs.Heads.{held}
 use Rattle.listing.specs.Cycles.{RowSays}
 use Rattle.reading.specs.Runs.{cost_of_code}
 use Rattle.reading.specs.Trees.{Task, Listing, block_heads}
@@ -35,7 +34,7 @@ use Rattle.commands.specs.declared.table.Command.TheVariants as command
 use Rattle.commands.specs.declared.table.Context.TheVariants.{BlockDue}
 
 clash : {X Y F : Type 0} {x : X} {f : F} → ◌≡◌ {A = Result X F} (Err f) (Ok x) → Y
-clash e = let z : ◌≡◌ {A = ℕ} 0 1 = cc in absurd (omega arith)
+clash e = cc
 
 -- what is left where no fault stood in the way
 passed : {X : Type 0} (o : Option Head) (f : ℕ → ℕ → CostFault) (r : Result X CostFault) (x : X) → unless o f r ≡ Ok x → (o ≡ None) × (r ≡ Ok x)
@@ -54,13 +53,13 @@ judged_ok bs l (Ok m) a e =
 pub record Costed (bs : List ℕ) (k : Costs) : Type 0 where
   pub it : Listing
   pub is : costing bs ≡ Ok it
-  pub routines_are : held k.outline.routines ≡ map routine_head it.routines
-  pub tasks_are : held k.outline.tasks ≡ map task_head it.tasks
+  pub routines_are : k.outline.routines ≡ map routine_head it.routines
+  pub tasks_are : k.outline.tasks ≡ map task_head it.tasks
   pub costs_are : k.by_code ≡ map (cost_in it.routines 32) (range_with_len 0 256)
 
-costed_by : (bs : List ℕ) (k : Costs) (r : Result Listing CostFault) → costing bs ≡ r → Ok (held k.outline.routines, held k.outline.tasks, k.by_code) ≡ costs_of r → Costed bs k
+costed_by : (bs : List ℕ) (k : Costs) (r : Result Listing CostFault) → costing bs ≡ r → Ok (k.outline.routines, k.outline.tasks, k.by_code) ≡ costs_of r → Costed bs k
 costed_by bs k (Ok l) a e =
-    let all : (held k.outline.routines, held k.outline.tasks, k.by_code) ≡ (map routine_head l.routines, map task_head l.tasks, map (cost_in l.routines 32) (range_with_len 0 256)) = cc in
+    let all : (k.outline.routines, k.outline.tasks, k.by_code) ≡ (map routine_head l.routines, map task_head l.tasks, map (cost_in l.routines 32) (range_with_len 0 256)) = cc in
     record {
       it = l;
       is = a;
@@ -70,7 +69,7 @@ costed_by bs k (Ok l) a e =
     }
 costed_by bs k (Err f) a e = clash (sym e)
 
-pub costed : (bs : List ℕ) (k : Costs) → Ok (held k.outline.routines, held k.outline.tasks, k.by_code) ≡ costs_of (costing bs) → Costed bs k
+pub costed : (bs : List ℕ) (k : Costs) → Ok (k.outline.routines, k.outline.tasks, k.by_code) ≡ costs_of (costing bs) → Costed bs k
 costed bs k e = costed_by bs k (costing bs) refl e
 
 cost_fault_by : (f : CostFault) (r : Result Listing CostFault) → Err f ≡ costs_of r → loaded_after r ≡ Err (Cost f)
@@ -186,13 +185,13 @@ module _ (bs : List ℕ) (k : Costs) (x : Costed bs k) where
     unfolding of loading
     whole = ap loaded_after x.is ∙ ap (λ m. unless_free (marked_in m x.it.tasks) x.it) (sym marks_are)
 
-    pub free_told : (y : Head × Head) → ((ts : List Task) → held k.outline.tasks ≡ map task_head ts → AllByRecursion (TaskRead bs) ts → Some y ≡ marked_in marks ts) → loading bs ≡ Err (FreeBlock y.1.at y.0.code)
+    pub free_told : (y : Head × Head) → ((ts : List Task) → k.outline.tasks ≡ map task_head ts → AllByRecursion (TaskRead bs) ts → Some y ≡ marked_in marks ts) → loading bs ≡ Err (FreeBlock y.1.at y.0.code)
     free_told y e = whole ∙ ap (λ o. unless_free o x.it) (sym (e x.it.tasks x.tasks_are tasks_read))
 
-    pub free_place : (y : Head × Head) → ((ts : List Task) → held k.outline.tasks ≡ map task_head ts → AllByRecursion (TaskRead bs) ts → Some y ≡ marked_in marks ts) → (n : ℕ) × Stands bs (command.Block n) y.1.at
+    pub free_place : (y : Head × Head) → ((ts : List Task) → k.outline.tasks ≡ map task_head ts → AllByRecursion (TaskRead bs) ts → Some y ≡ marked_in marks ts) → (n : ℕ) × Stands bs (command.Block n) y.1.at
     free_place y e = (y.1.code, (BlockDue, marked_stands bs marks x.it.tasks y tasks_read (sym (e x.it.tasks x.tasks_are tasks_read))))
 
-    module _ (none : (ts : List Task) → held k.outline.tasks ≡ map task_head ts → AllByRecursion (TaskRead bs) ts → None ≡ marked_in marks ts) where
+    module _ (none : (ts : List Task) → k.outline.tasks ≡ map task_head ts → AllByRecursion (TaskRead bs) ts → None ≡ marked_in marks ts) where
       none_free : marked_in marks x.it.tasks ≡ None
       none_free = sym (none x.it.tasks x.tasks_are tasks_read)
 
@@ -221,6 +220,6 @@ module _ (bs : List ℕ) (k : Costs) (x : Costed bs k) where
               tasks = true_tasks (vec_items v) t;
             },
           )
-      finish (Err (Cost f)) small c t = let z : ◌≡◌ {A = ℕ} 0 1 = cc in absurd (omega arith)
-      finish (Err (FreeBlock at n)) small c t = let z : ◌≡◌ {A = ℕ} 0 1 = cc in absurd (omega arith)
+      finish (Err (Cost f)) small c t = cc
+      finish (Err (FreeBlock at n)) small c t = cc
       finish (Err NoMemory) small c t = (x.it, loads)

@@ -1,10 +1,13 @@
 -- What one turn of noting calls keeps. Assumes nothing.
-use Rattle.std.proofs.Common.{◌≡◌, ℕ, suc, ◌+◌, ◌-◌, ◌<◌, ◌≤◌, Bool, true, false, ◌||◌, ◌≢◌, List, [], ◌∷◌, length, get_or, set, replicate, Some, None, Ok, Err, Option, sym, refl, ap, ◌∙◌, subst, ⊎_elim, arith, length-set, get_or-set_other, get_or-set_same, eq-eqb, ne_eqb}
+use Rattle.std.proofs.Common.{◌≡◌, ℕ, suc, ◌+◌, ◌-◌, ◌<◌, ◌≤◌, Bool, true, false, ◌||◌, ◌≢◌, List, [], ◌∷◌, length, get_or, set, replicate, Some, None, Ok, Err, Option, Result, inl, inr, ◌⊎◌, sym, refl, ap, ◌∙◌, subst, ⊎_elim, arith, length-set, get_or-set_other, get_or-set_same, eq-eqb, ne_eqb}
+use Rattle.std.specs.Option.{option_flatten}
+use Rattle.std.specs.Result.{result_ok}
 use Rattle.std.proofs.lemmas.List.{get_or-replicate}
 use Rattle.std.proofs.lemmas.Bool.{cond-true, cond-false, cases_eq, cases_Bool}
 use Rattle.faults.specs.declared.fault.ReadFault.{ReadFault}
 use Rattle.commands.specs.declared.table.Command.{Command}
 use Rattle.commands.specs.declared.table.Command.TheVariants.{Routine, Work, Call, Either, Or, EndEither, Repeat, EndRepeat, EndRoutine, Task, Block, Point, EndTask, Sheet}
+use Rattle.commands.specs.declared.table.Context.{Context}
 use Rattle.commands.specs.declared.table.Context.TheVariants.{Body}
 use Rattle.reading.specs.declared.heads.Head.{Head}
 use Rattle.listing.specs.declared.calls.Calls.{Calls}
@@ -41,6 +44,20 @@ or_else_none : (o : Option Head) → or_else o None ≡ o
 or_else_none None = refl
 or_else_none (Some h) = refl
 
+abbrev Answer : Type 0
+Answer = Result (Option (ℕ × Command)) ReadFault
+
+-- what is read where a walk stops at all else
+pub flat_some : (bs b : List ℕ) (context : Context) (p at : ℕ) (c : Command) (r : Answer) → r ≡ answer context b p → b ≡ bs → Some (at, c) ≡ option_flatten (result_ok r) → answer context bs p ≡ Ok (Some (at, c))
+flat_some bs b context p at c (Ok None) t e f = cc
+flat_some bs b context p at c (Ok (Some x)) t e f = sym (t ∙ ap (λ y. answer context y p) e) ∙ ap Ok (sym f)
+flat_some bs b context p at c (Err g) t e f = cc
+
+flat_none : (r : Answer) → None ≡ option_flatten (result_ok r) → (r ≡ Ok None) ⊎ ((f : ReadFault) × (r ≡ Err f))
+flat_none (Ok None) f = inl refl
+flat_none (Ok (Some x)) f = cc
+flat_none (Err g) f = inr (g, refl)
+
 -- the calls that are noted, and those that are to come, are all
 pub record Noting (known whole : List Head) (bs : List ℕ) (r : Calls) (place : ℕ) : Type 0 where
   pub left : ℕ
@@ -55,10 +72,10 @@ more_marks ms k at c rest long h =
     (λ e.
     let inside : k < length ms = omega arith in
     ap (λ b. get_or (set ms k true) b false || used c rest) (sym e) ∙ ap (λ b. b || used c rest) (get_or-set_same ms k true false inside)
-    ∙ sym (or_true (get_or ms c false)) ∙ ap (λ b. get_or ms c false || b) (sym (cond-true _ _ _ (eq-eqb k c e))))
+    ∙ sym (or_true (get_or ms c false)) ∙ ap (λ b. get_or ms c false || b) (sym (ap (λ b. b || used c rest) (eq-eqb k c e))))
     (λ e.
     let ne : c ≢ k = λ q. e (sym q) in
-    ap (λ b. b || used c rest) (get_or-set_other ms k c true false ne) ∙ ap (λ b. get_or ms c false || b) (sym (cond-false _ _ _ (ne_eqb k c e))))
+    ap (λ b. b || used c rest) (get_or-set_other ms k c true false ne) ∙ ap (λ b. get_or ms c false || b) (sym (ap (λ b. b || used c rest) (ne_eqb k c e))))
     (cases_eq k c)
 
 more_unknown : (known : List Head) (o : Option Head) (h : Head) (rest : List Head) → or_else (or_else o (first_unknown known (h ∷ []))) (first_unknown known rest) ≡ or_else o (first_unknown known (h ∷ rest))
@@ -77,16 +94,13 @@ module _ (known whole : List Head) (bs : List ℕ) (r : Calls) (place : ℕ) (g 
   all_noted : calls_from bs (suc g.left) place ≡ [] → CallsTold known whole r
   all_noted e =
       record {
-        wide = g.long;
         marks = λ c h. sym (or_false (get_or r.marks c false)) ∙ ap (λ hs. get_or r.marks c false || used c hs) (sym e) ∙ g.marks_are c h;
         unknown = sym (or_else_none r.unknown) ∙ ap (λ hs. or_else r.unknown (first_unknown known hs)) (sym e) ∙ g.unknown_is;
       }
 
-  pub noted_fault : (f : ReadFault) → answer Body bs place ≡ Err f → CallsTold known whole r
-  noted_fault f e = all_noted (rest_is e)
-
-  pub noted_none : answer Body bs place ≡ Ok None → CallsTold known whole r
-  noted_none e = all_noted (rest_is e)
+  pub noted_end : (a : Answer) → a ≡ answer Body bs place → None ≡ option_flatten (result_ok a) → CallsTold known whole r
+  noted_end a t e =
+      ⊎_elim (λ n. all_noted (rest_is (sym t ∙ n))) (λ (f : (f : ReadFault) × (a ≡ Err f)). all_noted (rest_is (sym t ∙ f.1))) (flat_none a e)
 
   module _ (at : ℕ) (c : Command) (e : answer Body bs place ≡ Ok (Some (at, c))) where
     pub noted_all : c ≡ EndRoutine → CallsTold known whole r

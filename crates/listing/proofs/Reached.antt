@@ -1,7 +1,8 @@
 -- The table of reached codes is the relation, and where no routine calls itself every cost is settled. Assumes nothing.
-use Rattle.std.proofs.Common.{◌≡◌, ℕ, zero, suc, ◌+◌, ◌*◌, ◌<◌, ◌≤◌, max, Bool, true, false, cond, ◌&&◌, eqb, ◌⊎◌, List, [], ◌∷◌, ◌++◌, map, length, get_or, Some, None, Ok, Err, Option, Result, sym, refl, ap, ◌∙◌, subst, inl, inr, ⊎_elim, add-zero, zero-add, arith, eq-eqb, ne_eqb}
+use Rattle.std.proofs.Common.{◌≡◌, ℕ, zero, suc, ◌+◌, ◌*◌, ◌<◌, ◌≤◌, max, Bool, true, false, cond, ◌&&◌, ◌||◌, eqb, ◌⊎◌, List, [], ◌∷◌, ◌++◌, map, length, get_or, Some, None, Ok, Err, Option, Result, sym, refl, ap, ◌∙◌, subst, inl, inr, ⊎_elim, add-zero, zero-add, arith, eq-eqb, ne_eqb}
 use borrow.Author.Tests.{both_ways}
 use Rattle.std.proofs.lemmas.List.{length-map}
+use Rattle.std.proofs.lemmas.List.Folds.{list_any-append}
 use Rattle.std.proofs.lemmas.Bool.{cases_Bool, cond-true, cond-false, cases_eq, cases_lt, or_cases, or_left, or_right, and_parts, and_from, false_from_ne_true}
 use Rattle.faults.specs.declared.fault.CostFault.{CostFault}
 use Rattle.faults.specs.declared.fault.CostFault.TheVariants.{Read, Unknown, Cycle, TooDear}
@@ -161,23 +162,16 @@ count_all (suc n) = omega (arith, count_all n)
 
 -- a run's cost hangs on the costs of its calls alone
 used_left : (c : ℕ) (xs ys : List Head) → used c xs ≡ true → used c (xs ++ ys) ≡ true
-used_left c [] ys e = absurd (both_ways _ refl (sym (sym e)))
-used_left c (x ∷ xs) ys e =
-    ⊎_elim
-    (λ m. cond-true _ _ _ m)
-    (λ m. cond-false _ _ _ m ∙ used_left c xs ys (sym (cond-false _ _ _ m) ∙ e))
-    (cases_Bool (eqb x.code c))
+used_left c xs ys e = list_any-append (λ (h : Head). eqb h.code c) xs ys ∙ or_left (used c xs) (used c ys) e
 
 used_right : (c : ℕ) (xs ys : List Head) → used c ys ≡ true → used c (xs ++ ys) ≡ true
-used_right c [] ys e = e
-used_right c (x ∷ xs) ys e =
-    ⊎_elim (λ m. cond-true _ _ _ m) (λ m. cond-false _ _ _ m ∙ used_right c xs ys e) (cases_Bool (eqb x.code c))
+used_right c xs ys e = list_any-append (λ (h : Head). eqb h.code c) xs ys ∙ or_right (used c xs) (used c ys) e
 
 module _ (of by : ℕ → ℕ) where
   mutual
     same_item : (i : Item) → ((c : ℕ) → used c (calls_item i) ≡ true → of c ≡ by c) → item_cost of i ≡ item_cost by i
     same_item (work t) h = refl
-    same_item (call at c) h = h c (cond-true _ _ _ (eq-eqb c c refl))
+    same_item (call at c) h = h c (ap (λ b. b || false) (eq-eqb c c refl))
     same_item (either a) h = same_arms a h
     same_item (repeat k r) h = ap (λ n. k * n) (same_run r h)
 
@@ -269,7 +263,7 @@ module _ (rs : List Routine) (acyclic : (i : ℕ) → i < length rs → reach_ta
 
 -- what costing tells of cycles
 clash : {X Y F : Type 0} {x : X} {f : F} → ◌≡◌ {A = Result X F} (Err f) (Ok x) → Y
-clash e = let z : ◌≡◌ {A = ℕ} 0 1 = cc in absurd (omega arith)
+clash e = cc
 
 module _ (bs : List ℕ) (l : Listing) (is : listing bs ≡ Ok l) (few : length l.routines ≤ 32) where
   rs : List Routine
@@ -300,7 +294,7 @@ module _ (bs : List ℕ) (l : Listing) (is : listing bs ≡ Ok l) (few : length 
   by_dear o (Err (Read f)) n e = tt
   by_dear o (Err (Unknown at c)) n e = tt
   by_dear None (Err (Cycle at c)) n e = clash e
-  by_dear (Some h) (Err (Cycle at c)) n e = let z : ◌≡◌ {A = ℕ} 0 1 = cc in absurd (omega arith)
+  by_dear (Some h) (Err (Cycle at c)) n e = cc
   by_dear o (Err (TooDear at c)) n e = (l, is, settled n)
 
   by_cycle : (o : Option Head) (r : Result Costs CostFault) → cycle_from (reach_table rs) 0 (map routine_head rs) ≡ o → cost_told r ≡ costs_of (unless o Cycle (unless (dear_from (cost_in rs 32) (map routine_head rs)) TooDear (Ok l))) → CycleTold bs r
@@ -313,7 +307,7 @@ module _ (bs : List ℕ) (l : Listing) (is : listing bs ≡ Ok l) (few : length 
       let x : at ≡ h.at = cc in
       let y : c ≡ h.code = cc in
       (l, is, told_first h at c n x y)
-  by_cycle (Some h) (Err (TooDear at c)) n e = let z : ◌≡◌ {A = ℕ} 0 1 = cc in absurd (omega arith)
+  by_cycle (Some h) (Err (TooDear at c)) n e = cc
 
   by_unknown : (o : Option Head) (r : Result Costs CostFault) → cost_told r ≡ costs_of (unless o Unknown (unless (cycle_from (reach_table rs) 0 (map routine_head rs)) Cycle (unless (dear_from (cost_in rs 32) (map routine_head rs)) TooDear (Ok l)))) → CycleTold bs r
   unfolding rs
@@ -321,8 +315,8 @@ module _ (bs : List ℕ) (l : Listing) (is : listing bs ≡ Ok l) (few : length 
   by_unknown (Some h) (Ok k) e = clash (sym e)
   by_unknown (Some h) (Err (Read f)) e = tt
   by_unknown (Some h) (Err (Unknown at c)) e = tt
-  by_unknown (Some h) (Err (Cycle at c)) e = let z : ◌≡◌ {A = ℕ} 0 1 = cc in absurd (omega arith)
-  by_unknown (Some h) (Err (TooDear at c)) e = let z : ◌≡◌ {A = ℕ} 0 1 = cc in absurd (omega arith)
+  by_unknown (Some h) (Err (Cycle at c)) e = cc
+  by_unknown (Some h) (Err (TooDear at c)) e = cc
 
   pub cycles_told : (r : Result Costs CostFault) → cost_told r ≡ costs_of (costing bs) → CycleTold bs r
   unfolding rs costing

@@ -1,43 +1,39 @@
 -- Steps through the routines: their calls, the first cycle and the first dear one. Assumes nothing.
-use Rattle.std.proofs.Common.{◌≡◌, ℕ, zero, suc, ◌+◌, ◌<◌, ◌≤◌, Bool, true, false, ◌≢◌, List, [], ◌∷◌, length, get_or, drop, set, replicate, Some, None, sym, refl, ap, ◌∙◌, ⊎_elim, arith, length-set, get_or-set_other, get_or-set_same, le-ltb, lt-ltb}
-use Rattle.std.proofs.lemmas.List.{at_drop_more, at_drop_all, get_or_past, get_or-replicate}
-use Rattle.std.proofs.lemmas.Bool.{cond-true, cond-false, cases_lt, cases_eq}
+use Rattle.std.proofs.Common.{◌≡◌, ℕ, zero, suc, ◌+◌, ◌<◌, ◌≤◌, Bool, false, ◌≢◌, List, [], ◌∷◌, length, get_or, drop, set, replicate, Some, None, Option, sym, refl, ap, ◌∙◌, ⊎_elim, arith, length-set, get_or-set_other, get_or-set_same}
+use Rattle.std.specs.List.{find, zip}
+use Rattle.std.specs.Option.{MatchOption, IsSomeAnd, option_map}
+use denote.Ref.{Bor}
+use Rattle.std.proofs.lemmas.List.{at_drop_more, at_drop_all, drop_more, get_or_past}
+use Rattle.std.proofs.lemmas.Bool.{cond-true, cond-false, cases_Bool, cases_lt, cases_eq}
 use Rattle.reading.specs.declared.heads.Head.{Head}
 use Rattle.listing.specs.declared.calls.Calls.{Calls}
-use Rattle.reading.specs.Heads.{head, used}
+use Rattle.reading.specs.Heads.{used}
 use Rattle.listing.specs.Calls.{first_unknown, or_else, CallsTold}
-use Rattle.listing.specs.Cycles.{Table, entry, Tabled, Wide}
-use Rattle.listing.specs.Costing.{table_of, unknown_in, cycle_from, dear_from}
+use Rattle.listing.specs.Cycles.{entry, Tabled}
+use Rattle.listing.specs.Costing.{table_of, unknown_in, cycle_from}
 
 -- the first that reaches itself
-module _ (t : Table) (hs : List Head) (i : ℕ) where
-  pub cycle_past : length hs ≤ i → cycle_from t i (drop i hs) ≡ None
-  cycle_past h = at_drop_all (cycle_from t i) hs i h
+abbrev pub reaches_itself : Head × List Bool → Bool
+reaches_itself p = get_or p.1 p.0.code false
 
-  module _ (h : i < length hs) (x : Head) (is : x ≡ get_or hs i (head 0 0)) where
-    cycle_step : cycle_from t i (drop i hs) ≡ cycle_from t i (x ∷ drop (i + 1) hs)
-    cycle_step = at_drop_more (cycle_from t i) hs i (head 0 0) h ∙ ap (λ y. cycle_from t i (y ∷ drop (i + 1) hs)) (sym is)
+module _ (rows : List (List Bool)) where
+  cycle_by : (hs : List Head) (i : ℕ) → length hs + i ≤ length rows → cycle_from (entry rows) i hs ≡ option_map (λ p. p.0) (find reaches_itself (zip hs (drop i rows)))
+  cycle_by [] i l = refl
+  cycle_by (h ∷ hs) i l =
+      let e = ap (λ l. option_map (λ p. p.0) (find reaches_itself (zip (h ∷ hs) l))) (drop_more rows i [] (omega arith)) in
+      ⊎_elim
+      (λ b. cond-true _ _ _ b ∙ sym (e ∙ ap (option_map (λ p. p.0)) (cond-true _ _ _ b)))
+      (λ b. cond-false _ _ _ b ∙ cycle_by hs (i + 1) (omega arith) ∙ sym (e ∙ ap (option_map (λ p. p.0)) (cond-false _ _ _ b)))
+      (cases_Bool (entry rows i h.code))
 
-    pub cycle_hit : t i x.code ≡ true → cycle_from t i (drop i hs) ≡ Some x
-    cycle_hit e = cycle_step ∙ cond-true _ _ _ e
+  module _ (Gives : Bor Head × Bor (List Bool) → Head → Type 0) where
+    first_by : (r : Option (Bor Head × Bor (List Bool))) (o : Option Head) → MatchOption r (o ≡ None) (λ x. IsSomeAnd o (Gives x)) → ((x : Bor Head × Bor (List Bool)) (h : Head) → Gives x h → h ≡ x.0.now) → o ≡ option_map (λ (p : Head × List Bool). p.0) (option_map (λ p. (p.0.now, p.1.now)) r)
+    first_by None o m gives = m
+    first_by (Some x) None m gives = absurd m
+    first_by (Some x) (Some h) m gives = ap Some (gives x h m)
 
-    pub cycle_miss : t i x.code ≡ false → cycle_from t (i + 1) (drop (i + 1) hs) ≡ cycle_from t i (drop i hs)
-    cycle_miss e = sym (cycle_step ∙ cond-false _ _ _ e)
-
--- the first that is too dear
-module _ (of : ℕ → ℕ) (hs : List Head) (i : ℕ) where
-  pub dear_past : length hs ≤ i → dear_from of (drop i hs) ≡ None
-  dear_past h = at_drop_all (dear_from of) hs i h
-
-  module _ (h : i < length hs) (x : Head) (is : x ≡ get_or hs i (head 0 0)) where
-    dear_step : dear_from of (drop i hs) ≡ dear_from of (x ∷ drop (i + 1) hs)
-    dear_step = at_drop_more (dear_from of) hs i (head 0 0) h ∙ ap (λ y. dear_from of (y ∷ drop (i + 1) hs)) (sym is)
-
-    pub dear_hit : 1000000 < of x.code → dear_from of (drop i hs) ≡ Some x
-    dear_hit e = dear_step ∙ cond-true _ _ _ (lt-ltb _ _ e)
-
-    pub dear_miss : of x.code ≤ 1000000 → dear_from of (drop (i + 1) hs) ≡ dear_from of (drop i hs)
-    dear_miss e = sym (dear_step ∙ cond-false _ _ _ (le-ltb _ _ e))
+    pub first_cycle_is : (hs : List Head) → length hs ≤ length rows → (r : Option (Bor Head × Bor (List Bool))) (o : Option Head) → option_map (λ p. (p.0.now, p.1.now)) r ≡ find reaches_itself (zip hs rows) → MatchOption r (o ≡ None) (λ x. IsSomeAnd o (Gives x)) → ((x : Bor Head × Bor (List Bool)) (h : Head) → Gives x h → h ≡ x.0.now) → o ≡ cycle_from (entry rows) 0 hs
+    first_cycle_is hs l r o f m gives = first_by r o m gives ∙ ap (option_map (λ p. p.0)) f ∙ sym (cycle_by hs 0 (omega arith))
 
 no_mark : (n c : ℕ) → get_or (replicate n false) c false ≡ false
 no_mark zero c = refl
@@ -52,7 +48,6 @@ no_row (suc n) (suc j) c = no_row n j c
 -- so many rows are filled, and the others are empty
 pub record Filling (known : List Head) (lists : List (List Head)) (rows : List (List Bool)) (i : ℕ) : Type 0 where
   pub long : length rows ≡ 32
-  pub wide : Wide rows
   pub filled : (j c : ℕ) → j < i → c < 256 → entry rows j c ≡ table_of lists j c
   pub empty : (j c : ℕ) → i ≤ j → entry rows j c ≡ false
   pub unknown : unknown_in known (drop i lists) ≡ unknown_in known lists
@@ -61,7 +56,6 @@ module _ (known : List Head) (lists : List (List Head)) (rows : List (List Bool)
   pub filled_all : length lists ≤ i → i ≤ 32 → Tabled rows (table_of lists) × (unknown_in known lists ≡ None)
   filled_all h few = (
     record {
-      wide = g.wide;
       says = λ j c _ k. ⊎_elim (λ below. g.filled j c below k) (λ above. g.empty j c above ∙ sym (ap (used c) (get_or_past lists j [] (omega arith)))) (cases_lt j i);
     },
     sym g.unknown ∙ at_drop_all (unknown_in known) lists i h,
@@ -79,10 +73,6 @@ module _ (known : List Head) (lists : List (List Head)) (rows : List (List Bool)
         let inside : i < length rows = omega (arith, g.long) in
         record {
           long = length-set rows i r.marks ∙ g.long;
-          wide = λ j k. ⊎_elim
-              (λ same. ap (λ m. length (get_or (set rows i r.marks) m [])) same ∙ ap length (get_or-set_same rows i r.marks [] inside) ∙ t.wide)
-              (λ other. let ne : j ≢ i = other in ap length (get_or-set_other rows i j r.marks [] ne) ∙ g.wide j k)
-              (cases_eq j i);
           filled = λ j c k l. ⊎_elim
               (λ same. ap (λ m. get_or (get_or (set rows i r.marks) m []) c false) same ∙ ap (λ row. get_or row c false) (get_or-set_same rows i r.marks [] inside) ∙ t.marks c l ∙ ap (used c) is ∙ ap (λ m. used c (get_or lists m [])) (sym same))
               (λ other. let ne : j ≢ i = other in let below : j < i = omega arith in ap (λ row. get_or row c false) (get_or-set_other rows i j r.marks [] ne) ∙ g.filled j c below l)
@@ -95,7 +85,6 @@ pub none_filled : (known : List Head) (lists : List (List Head)) → Filling kno
 none_filled known lists =
     record {
       long = refl;
-      wide = λ j k. ap length (get_or-replicate 32 j (replicate 256 false) [] k);
       filled = λ j c k l. absurd (omega arith);
       empty = λ j c k. no_row 32 j c;
       unknown = refl;

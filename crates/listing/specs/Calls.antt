@@ -51,6 +51,5 @@ or_else None o = o
 
 -- what is told of calls: which codes they have, and the first that is not known
 pub record CallsTold (known hs : List Head) (r : Calls) : Type 0 where
-  pub wide : length r.marks ≡ 256
   pub marks : (c : ℕ) → c < 256 → slice_index_or r.marks c false ≡ used c hs
   pub unknown : r.unknown ≡ first_unknown known hs

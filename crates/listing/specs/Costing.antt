@@ -1,5 +1,6 @@
 -- What costing tells of a listing. Assumes nothing.
 use Rattle.std.specs.Prelude.{◌≡◌, ℕ, zero, suc, ◌+◌, ◌<◌, min, Bool, cond, List, [], ◌∷◌, ◌++◌, map, length, Some, None, Ok, Err, Option, Result, ◌==◌, nat_lt, slice_index, slice_index_or}
+use Rattle.std.specs.List.{find}
 use Rattle.faults.specs.declared.fault.ReadFault.{ReadFault}
 use Rattle.faults.specs.declared.fault.CostFault.{CostFault}
 use Rattle.faults.specs.declared.fault.CostFault.TheVariants.{Read, Unknown, Cycle, TooDear}
@@ -47,8 +48,7 @@ cost_in rs (suc k) c = cost_by (cost_in rs k) rs c
 
 -- the first routine that costs more than 1,000,000
 abbrev pub dear_from : (ℕ → ℕ) → List Head → Option Head
-dear_from of [] = None
-dear_from of (h ∷ hs) = cond (nat_lt 1000000 (of h.code)) (Some h) (dear_from of hs)
+dear_from of hs = find (λ (h : Head). nat_lt 1000000 (of h.code)) hs
 
 -- a fault where there is one, and else what comes next
 abbrev pub unless : {X : Type 0} → Option Head → (ℕ → ℕ → CostFault) → Result X CostFault → Result X CostFault
@@ -75,9 +75,9 @@ abbrev pub calls_in : List ℕ → List Head → List (List Head)
 calls_in bs = map (λ (h : Head). calls_at bs h.at)
 
 -- what the walks through all routines tell
-abbrev pub TableTold : List Head → List (List Head) → Result (List (List Bool)) Head → Type 0
+abbrev pub TableTold : List Head → List (List Head) → Result (List (List Bool)) CostFault → Type 0
 TableTold known lists (Ok rows) = Tabled rows (table_of lists) × (unknown_in known lists ≡ None)
-TableTold known lists (Err h) = unknown_in known lists ≡ Some h
+TableTold known lists (Err f) = (h : Head) × (unknown_in known lists ≡ Some h) × (f ≡ Unknown h.at h.code)
 
 -- costs by code, at most 1,000,001
 pub record Capped (costs : List ℕ) (of : ℕ → ℕ) : Type 0 where

@@ -19,12 +19,8 @@ unfoldable pub closed : Table → (ℕ → ℕ) → ℕ → Table
 closed t code zero = t
 closed t code (suc k) = through (closed t code k) k (code k)
 
--- 32 rows of 256 codes
-abbrev pub Wide : List (List Bool) → Type 0
-Wide rows = (i : ℕ) → i < 32 → length (slice_index_or rows i []) ≡ 256
-
+-- 32 rows of 256 codes say what a table says
 pub record Tabled (rows : List (List Bool)) (t : Table) : Type 0 where
-  pub wide : Wide rows
   pub says : (i c : ℕ) → i < 32 → c < 256 → entry rows i c ≡ t i c
 
 pub record RowSays (row : List Bool) (f : ℕ → Bool) : Type 0 where

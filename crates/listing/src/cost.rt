@@ -1,7 +1,6 @@
 // Costing: unknown routines, cycles of calls, and what each routine costs.
 ghost use Rattle.std.specs.Prelude.{◌≡◌, ◌<◌, min, false, List, map, Some, None, Ok};
 ghost use Rattle.std.specs.List.{AllByRecursion};
-ghost use Rattle.reading.specs.Heads.{held};
 ghost use Rattle.commands.specs.declared.table.Context.TheVariants.{Top};
 ghost use Rattle.reading.specs.Bodies.{BodyRead};
 ghost use Rattle.listing.specs.Costing.{Capped};
@@ -18,6 +17,7 @@ ghost use Rattle.listing.specs.Worked.{Worked};
 
 use crate::blocks::{marked_block, unlisted};
 use crate::calls::Calls;
+use crate::codes::Codes;
 use crate::cycles::reached;
 use commands::reader::Reader;
 use commands::table::Context;
@@ -26,50 +26,47 @@ use reading::heads::{Head, Heads};
 use reading::outline::Outline;
 use reading::read::read;
 use reading::walk::cost_run;
+use std::array;
 
 // The codes that each routine calls, or the first call of a code that no routine has.
-fn call_table(bytes: &[u8], routines: &Heads) -> Result<[[bool; 256]; 32], Head>
-    ensures { TableTold (held routines.now) (calls_in bytes.now (held routines.now)) result }
+fn call_table(bytes: &[u8], routines: &Heads) -> Result<[Codes; 32], CostFault>
+    ensures { TableTold routines.now (calls_in bytes.now routines.now) result }
 {
-    let mut rows = [[false; 256]; 32];
-    let count = routines.len();
-    for i in 0..count {
-        let calls = Calls::of(bytes, routines, routines.get(i).at);
-        if let Some(head) = calls.unknown {
-            return Err(head);
+    let mut rows = [Codes::none(); 32];
+    for (i, head) in routines.as_slice().iter().enumerate() {
+        let calls = Calls::of(bytes, routines, head.at);
+        if let Some(call) = calls.unknown {
+            return Err(CostFault::Unknown {
+                at: call.at,
+                code: call.code,
+            });
         }
-        let marks = calls.marks;
-        rows[i] = marks;
+        rows[i] = calls.marks;
     }
     Ok(rows)
 }
 
 // The first routine that reaches itself.
-fn first_cycle(rows: &[[bool; 256]; 32], routines: &Heads) -> Option<Head>
-    ensures { result ≡ cycle_from (entry rows.now) 0 (held routines.now) }
+fn first_cycle(rows: &[Codes; 32], routines: &Heads) -> Option<Head>
+    ensures { result ≡ cycle_from (entry rows.now) 0 routines.now }
 {
-    let count = routines.len();
-    for i in 0..count {
-        let head = routines.get(i);
-        if rows[i][head.code as usize] {
-            return Some(head);
-        }
-    }
-    None
+    routines
+        .as_slice()
+        .iter()
+        .zip(rows)
+        .find(|(head, row)| row.has(head.code))
+        .map(|(head, _)| *head)
 }
 
 // The first routine that costs more than 1,000,000 ticks.
 fn first_dear(costs: &[u32; 256], routines: &Heads) -> Option<Head>
-    ensures { result ≡ dear_from (cost_of_code costs.now) (held routines.now) }
+    ensures { result ≡ dear_from (cost_of_code costs.now) routines.now }
 {
-    let count = routines.len();
-    for i in 0..count {
-        let head = routines.get(i);
-        if costs[head.code as usize] > 1_000_000 {
-            return Some(head);
-        }
-    }
-    None
+    routines
+        .as_slice()
+        .iter()
+        .find(|head| costs[usize::from(head.code)] > 1_000_000)
+        .copied()
 }
 
 // What the routine at an offset costs, at most 1,000,001, where the called ones cost what the table says.
@@ -78,29 +75,30 @@ fn routine_cost(bytes: &[u8], costs: &[u32; 256], at: usize) -> u32
 {
     let mut reader = Reader { bytes, at };
     let _ = reader.next(Context::Top);
-    match cost_run(&mut reader, costs, at, 9) {
-        Ok(ran) => ran.cost,
-        Err(_) => 0,
-    }
+    cost_run(&mut reader, costs, at, 9).map_or(0, |ran| ran.cost)
+}
+
+// What the routine of a code costs, and 0 where there is none.
+fn code_cost(bytes: &[u8], routines: &Heads, costs: &[u32; 256], code: u8) -> u32
+    ensures { (rs : List Routine) → routines.now ≡ map routine_head rs → AllByRecursion (BodyRead bytes.now) rs → result ≡ min (cost_by (cost_of_code costs.now) rs code) 1000001 }
+{
+    routines
+        .as_slice()
+        .iter()
+        .find(|head| head.code == code)
+        .map_or(0, |head| routine_cost(bytes, costs, head.at))
 }
 
 // One pass: what each routine costs, by the costs of the pass before.
 fn pass_costs(bytes: &[u8], routines: &Heads, costs: &[u32; 256]) -> [u32; 256]
-    ensures { (rs : List Routine) → held routines.now ≡ map routine_head rs → AllByRecursion (BodyRead bytes.now) rs → Capped result (cost_by (cost_of_code costs.now) rs) }
+    ensures { (rs : List Routine) → routines.now ≡ map routine_head rs → AllByRecursion (BodyRead bytes.now) rs → Capped result (cost_by (cost_of_code costs.now) rs) }
 {
-    let mut next = [0u32; 256];
-    let mut i = routines.len();
-    while i > 0 {
-        i -= 1;
-        let head = routines.get(i);
-        next[head.code as usize] = routine_cost(bytes, costs, head.at);
-    }
-    next
+    array::from_fn(|code| code_cost(bytes, routines, costs, code as u8))
 }
 
 // What each routine costs after 32 passes.
 fn settled(bytes: &[u8], routines: &Heads) -> [u32; 256]
-    ensures { (rs : List Routine) → held routines.now ≡ map routine_head rs → AllByRecursion (BodyRead bytes.now) rs → Capped result (cost_in rs 32) }
+    ensures { (rs : List Routine) → routines.now ≡ map routine_head rs → AllByRecursion (BodyRead bytes.now) rs → Capped result (cost_in rs 32) }
 {
     let mut costs = [0u32; 256];
     for turn in 0..32usize {
@@ -110,7 +108,7 @@ fn settled(bytes: &[u8], routines: &Heads) -> [u32; 256]
 }
 
 // What costing finds: the outline of a listing, and what each routine costs, by its code.
-#[derive(Clone, Copy)]
+#[derive(Clone, Copy, Debug, PartialEq, Eq)]
 pub struct Costs {
     pub outline: Outline,
     pub by_code: [u32; 256],
@@ -124,13 +122,7 @@ pub fn cost(bytes: &[u8]) -> Result<Costs, CostFault>
     ensures only { OnlyTold bytes.now result }
 {
     let outline = read(bytes)?;
-    let calls = match call_table(bytes, &outline.routines) {
-        Ok(rows) => rows,
-        Err(head) => return Err(CostFault::Unknown {
-            at: head.at,
-            code: head.code,
-        }),
-    };
+    let calls = call_table(bytes, &outline.routines)?;
     let strange = unlisted(&outline.routines);
     if let Some((_, block)) = marked_block(bytes, &outline.tasks, &strange) {
         return Err(CostFault::Unknown {
@@ -156,8 +148,6 @@ pub fn cost(bytes: &[u8]) -> Result<Costs, CostFault>
 }
 
 // Two worked costs, as a fact over the definitions.
-pub fn worked_costs() -> u8
+pub fn worked_costs()
     ensures { Worked }
-{
-    0
-}
+{}

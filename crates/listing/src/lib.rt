@@ -3,6 +3,7 @@
 
 pub mod blocks;
 pub mod calls;
+pub mod codes;
 pub mod cost;
 pub mod cycles;
 pub mod load;

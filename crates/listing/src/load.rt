@@ -6,12 +6,12 @@ ghost use Rattle.listing.specs.Loading.{Priced, BodyTold, TaskTold, TasksTold, L
 ghost use Rattle.std.specs.List.{AllByRecursion};
 ghost use Rattle.reading.specs.Bodies.{TaskRead};
 ghost use Rattle.listing.specs.Cycles.{RowSays};
-ghost use Rattle.reading.specs.Heads.{held};
 ghost use Rattle.reading.specs.Runs.{cost_of_code};
 ghost use Rattle.reading.specs.Trees.{Blocks, Task as TreeTask};
 
 use crate::blocks::{marked_block, next_block, next_point, next_task};
-use crate::cost::cost;
+use crate::codes::Codes;
+use crate::cost::{Costs, cost};
 use crate::parts::Parts;
 use commands::reader::Reader;
 use faults::fault::{CostFault, LoadFault, ReadFault};
@@ -39,11 +39,9 @@ fn load_parts(
     let mut points = Vec::new(heap);
     let mut reader = Reader { bytes, at: place };
     'steps: loop {
-        let Some(head) = next_block(&mut reader) else {
-            return Err(strayed(place));
-        };
+        let head = next_block(&mut reader).ok_or(strayed(place))?;
         records.push(Block {
-            cost: costs[head.code as usize],
+            cost: costs[usize::from(head.code)],
         })?;
         let Some((ticks, charge)) = next_point(&mut reader) else {
             return Ok(Parts {
@@ -51,9 +49,7 @@ fn load_parts(
                 points,
             });
         };
-        let Ok(point) = Point::new(ticks, charge) else {
-            return Err(strayed(place));
-        };
+        let point = Point::new(ticks, charge).map_err(|_| strayed(place))?;
         points.push(point)?;
     }
 }
@@ -63,25 +59,16 @@ fn load_task(heap: Global, bytes: &[u8], costs: &[u32; 256], at: usize) -> Resul
     ensures { (t : TreeTask) → t.at ≡ at → TaskRead bytes.now t → Priced (cost_of_code costs.now) t.blocks → TaskTold (cost_of_code costs.now) t result }
 {
     let mut reader = Reader { bytes, at };
-    let Some(clock) = next_task(&mut reader) else {
-        return Err(strayed(at));
-    };
+    let clock = next_task(&mut reader).ok_or(strayed(at))?;
     let Parts { blocks, points } = load_parts(heap, bytes, costs, reader.at)?;
-    match Task::new(clock.code, clock.period, clock.deadline, blocks, points) {
-        Ok(task) => Ok(task),
-        Err(_) => Err(strayed(at)),
-    }
+    Task::new(clock.code, clock.period, clock.deadline, blocks, points).map_err(|_| strayed(at))
 }
 
 // The codes of routines that cost nothing.
-fn free_marks(costs: &[u32; 256]) -> [bool; 256]
+fn free_codes(costs: &[u32; 256]) -> Codes
     ensures { RowSays result (λ c. nat_eq (cost_of_code costs.now c) 0) }
 {
-    let mut marks = [false; 256];
-    for c in 0..256usize {
-        marks[c] = costs[c] == 0;
-    }
-    marks
+    Codes::those(|code| costs[usize::from(code)] == 0)
 }
 
 // All tasks, in the listing's order.
@@ -91,12 +78,11 @@ fn load_tasks(
     costs: &[u32; 256],
     tasks: &Heads,
 ) -> Result<Vec<Task>, LoadFault>
-    ensures { (ts : List TreeTask) → held tasks.now ≡ map task_head ts → AllByRecursion (TaskRead bytes.now) ts → AllByRecursion (λ (t : TreeTask). Priced (cost_of_code costs.now) t.blocks) ts → TasksTold (cost_of_code costs.now) ts result }
+    ensures { (ts : List TreeTask) → tasks.now ≡ map task_head ts → AllByRecursion (TaskRead bytes.now) ts → AllByRecursion (λ (t : TreeTask). Priced (cost_of_code costs.now) t.blocks) ts → TasksTold (cost_of_code costs.now) ts result }
 {
     let mut loaded = Vec::new(heap);
-    let count = tasks.len();
-    for i in 0..count {
-        let task = load_task(heap, bytes, costs, tasks.get(i).at)?;
+    for head in tasks.as_slice() {
+        let task = load_task(heap, bytes, costs, head.at)?;
         loaded.push(task)?;
     }
     Ok(loaded)
@@ -108,14 +94,13 @@ pub fn load(heap: Global, bytes: &[u8]) -> Result<Vec<Task>, LoadFault>
     ensures places { LoadPlaceTold bytes.now result }
     ensures only { LoadOnlyTold bytes.now result }
 {
-    let costs = cost(bytes)?;
-    let by_code = costs.by_code;
-    let free = free_marks(&by_code);
-    if let Some((task, block)) = marked_block(bytes, &costs.outline.tasks, &free) {
+    let Costs { outline, by_code } = cost(bytes)?;
+    let free = free_codes(&by_code);
+    if let Some((task, block)) = marked_block(bytes, &outline.tasks, &free) {
         return Err(LoadFault::FreeBlock {
             at: block.at,
             task: task.code,
         });
     }
-    load_tasks(heap, bytes, &by_code, &costs.outline.tasks)
+    load_tasks(heap, bytes, &by_code, &outline.tasks)
 }

@@ -3,7 +3,7 @@ use tasks::blocks::Block;
 use tasks::points::Point;
 
 // Its code, period and deadline.
-#[derive(Clone, Copy)]
+#[derive(Clone, Copy, Debug, PartialEq, Eq)]
 pub struct Clock {
     pub code: u8,
     pub period: u32,

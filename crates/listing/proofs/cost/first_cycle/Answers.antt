@@ -1,14 +1,12 @@
-use Rattle.std.proofs.Common.{sym, ◌∙◌, arith}
-use Rattle.reading.specs.Heads.{held}
-use Rattle.listing.specs.Cycles.{entry}
-use Rattle.listing.proofs.Tables.{cycle_past, cycle_hit, cycle_miss}
+use Rattle.std.proofs.Common.{◌≤◌, ap, length, arith, rules}
+use borrow.Author.Tests.{tests}
+use Rattle.std.proofs.lemmas.Iterator.{YieldsList-from_slice, YieldsList-from_zip}
+use Rattle.std.proofs.lemmas.Iterator.Search.{find_from_yields_List}
+use Rattle.listing.proofs.Tables.{reaches_itself, first_cycle_is}
 use Rattle.listing.proofs.cost.first_cycle.Goals as goal
 
-pub returns-then-rows-i : goal.returns-then-rows-i
-returns-then-rows-i c = sym (cycle_hit (entry c.args.rows.now) (held c.args.routines.now) c.loop-i.i (omega (arith, c.len-count.ensures.is)) _ c.get-head.ensures c.if-rows-i.true) ∙ c.loop-i.invariant
-
-pub loop-i-preserved : goal.loop-i-preserved
-loop-i-preserved c = cycle_miss (entry c.args.rows.now) (held c.args.routines.now) c.loop-i.i (omega (arith, c.len-count.ensures.is)) _ c.get-head.ensures c.if-rows-i.false ∙ c.loop-i.invariant
-
 pub returns : goal.returns
-returns c = sym (cycle_past (entry c.args.rows.now) (held c.args.routines.now) c.loop-i.i (omega (arith, c.len-count.ensures.is))) ∙ c.loop-i.invariant
+returns c =
+    let few : length c.args.routines.now ≤ length c.args.rows.now = omega (arith, ap length c.as_slice.ensures.is, c.as_slice.ensures.few, c.told-rows) in
+    first_cycle_is c.args.rows.now _ c.args.routines.now few c.find.result c.map.result
+    (find_from_yields_List reaches_itself c.find.new.self _ c.find.result c.find.ensures.ran (YieldsList-from_zip (YieldsList-from_slice c.args.routines.now cc) (YieldsList-from_slice c.args.rows.now cc)) (λ x b q k. search (rules, tests))) c.map.ensures.cases (λ x h k. search rules)

@@ -1,14 +1,10 @@
-use Rattle.std.proofs.Common.{sym, ◌∙◌, arith}
-use Rattle.reading.specs.Heads.{held}
+use Rattle.std.proofs.Common.{ltb, ◌∙◌, rules}
+use borrow.Author.Tests.{tests}
+use Rattle.std.proofs.lemmas.Iterator.{YieldsList-from_slice}
+use Rattle.std.proofs.lemmas.Iterator.Search.{find_from_yields_List}
+use Rattle.reading.specs.declared.heads.Head.{Head}
 use Rattle.reading.specs.Runs.{cost_of_code}
-use Rattle.listing.proofs.Tables.{dear_past, dear_hit, dear_miss}
 use Rattle.listing.proofs.cost.first_dear.Goals as goal
 
-pub returns-then-costs-head-gt1000000 : goal.returns-then-costs-head-gt1000000
-returns-then-costs-head-gt1000000 c = sym (dear_hit (cost_of_code c.args.costs.now) (held c.args.routines.now) c.loop-i.i (omega (arith, c.len-count.ensures.is)) _ c.get-head.ensures c.if-costs-head-gt1000000.true) ∙ c.loop-i.invariant
-
-pub loop-i-preserved : goal.loop-i-preserved
-loop-i-preserved c = dear_miss (cost_of_code c.args.costs.now) (held c.args.routines.now) c.loop-i.i (omega (arith, c.len-count.ensures.is)) _ c.get-head.ensures c.if-costs-head-gt1000000.false ∙ c.loop-i.invariant
-
 pub returns : goal.returns
-returns c = sym (dear_past (cost_of_code c.args.costs.now) (held c.args.routines.now) c.loop-i.i (omega (arith, c.len-count.ensures.is))) ∙ c.loop-i.invariant
+returns c = c.copied.ensures ∙ find_from_yields_List (λ (h : Head). ltb 1000000 (cost_of_code c.args.costs.now h.code)) _ _ _ c.find.ensures.ran (YieldsList-from_slice c.args.routines.now cc) (λ x b q k. search (rules, tests))

@@ -3,10 +3,9 @@ use Rattle.std.specs.List.{AllByRecursion}
 use Rattle.reading.specs.Bodies.{BodyRead}
 use Rattle.listing.specs.Costing.{Capped}
 use Rattle.listing.specs.Costing.{cost_in}
-use Rattle.reading.specs.Heads.{held}
 use Rattle.reading.specs.Listings.{routine_head}
 use Rattle.reading.specs.Trees.{Routine}
 use Rattle.listing.proofs.cost.settled.Given as goal
 
 abbrev pub invariant-loop-turn : goal.invariant-loop-turn
-invariant-loop-turn l = (rs : List Routine) → held l.routines ≡ map routine_head rs → AllByRecursion (BodyRead l.bytes) rs → Capped l.costs (cost_in rs l.turn)
+invariant-loop-turn l = (rs : List Routine) → l.routines ≡ map routine_head rs → AllByRecursion (BodyRead l.bytes) rs → Capped l.costs (cost_in rs l.turn)

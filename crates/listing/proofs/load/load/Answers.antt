@@ -2,24 +2,24 @@ use Rattle.std.proofs.lemmas.Result.{err_from_is_err_and}
 use Rattle.listing.proofs.Finished.{Costed, costed, cost_fault, free_told, free_place, no_place, only_loaded, tasks_read, tasks_priced, finish}
 use Rattle.listing.proofs.load.load.Goals as goal
 
-pub returns-in_err-costs : goal.returns-in_err-costs
-returns-in_err-costs c =
+pub returns-in_err-outline : goal.returns-in_err-outline
+returns-in_err-outline c =
     let p = err_from_is_err_and c.from_residual.result c.from_residual.ensures.1 in
-    rw (p.1, p.2) (record { told = cost_fault _ _ c.in_err-costs.ensures.told; places = c.in_err-costs.ensures.places; only = tt })
+    rw (p.1, p.2) (record { told = cost_fault _ _ c.in_err-outline.ensures.told; places = c.in_err-outline.ensures.places; only = tt })
 
 pub returns-in-Some : goal.returns-in-Some
 returns-in-Some c = record {
-  told = free_told c.args.bytes.now c.in_ok-costs.costs (costed c.args.bytes.now c.in_ok-costs.costs c.in_ok-costs.ensures.told) c.free_marks-free.result c.free_marks-free.ensures (c.in-Some.task, c.in-Some.block) c.in-Some.ensures;
-  places = free_place c.args.bytes.now c.in_ok-costs.costs (costed c.args.bytes.now c.in_ok-costs.costs c.in_ok-costs.ensures.told) c.free_marks-free.result c.free_marks-free.ensures (c.in-Some.task, c.in-Some.block) c.in-Some.ensures;
+  told = free_told c.args.bytes.now c.in_ok-outline.field-0 (costed c.args.bytes.now c.in_ok-outline.field-0 c.in_ok-outline.ensures.told) c.free_codes-free.result c.free_codes-free.ensures (c.in-Some.task, c.in-Some.block) c.in-Some.ensures;
+  places = free_place c.args.bytes.now c.in_ok-outline.field-0 (costed c.args.bytes.now c.in_ok-outline.field-0 c.in_ok-outline.ensures.told) c.free_codes-free.result c.free_codes-free.ensures (c.in-Some.task, c.in-Some.block) c.in-Some.ensures;
   only = tt;
 }
 
 pub returns : goal.returns
 returns c =
-    let x : Costed c.args.bytes.now c.in_ok-costs.costs = costed c.args.bytes.now c.in_ok-costs.costs c.in_ok-costs.ensures.told in
-    let t = c.load_tasks.ensures x.it.tasks x.tasks_are (tasks_read c.args.bytes.now c.in_ok-costs.costs x) (tasks_priced c.args.bytes.now c.in_ok-costs.costs x c.free_marks-free.result c.free_marks-free.ensures c.in_default.ensures) in
+    let x : Costed c.args.bytes.now c.in_ok-outline.field-0 = costed c.args.bytes.now c.in_ok-outline.field-0 c.in_ok-outline.ensures.told in
+    let t = c.load_tasks.ensures x.it.tasks x.tasks_are (tasks_read c.args.bytes.now c.in_ok-outline.field-0 x) (tasks_priced c.args.bytes.now c.in_ok-outline.field-0 x c.free_codes-free.result c.free_codes-free.ensures c.in_default.ensures) in
     record {
-      told = finish c.args.bytes.now c.in_ok-costs.costs x c.free_marks-free.result c.free_marks-free.ensures c.in_default.ensures c.load_tasks.result (λ i. (c.type_inv.bytes i).fits) c.in_ok-costs.ensures.cycles t;
+      told = finish c.args.bytes.now c.in_ok-outline.field-0 x c.free_codes-free.result c.free_codes-free.ensures c.in_default.ensures c.load_tasks.result (λ i. (c.type_inv.bytes i).fits) c.in_ok-outline.ensures.cycles t;
       places = no_place c.args.bytes.now _ _ c.load_tasks.result t;
-      only = only_loaded c.args.bytes.now c.in_ok-costs.costs c.in_ok-costs.ensures.cycles c.in_ok-costs.ensures.only c.load_tasks.result;
+      only = only_loaded c.args.bytes.now c.in_ok-outline.field-0 c.in_ok-outline.ensures.cycles c.in_ok-outline.ensures.only c.load_tasks.result;
     }

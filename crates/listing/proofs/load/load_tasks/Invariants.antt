@@ -1,12 +1,11 @@
 use Rattle.std.proofs.Common.{◌≡◌, List, map, take, vec_items}
 use Rattle.std.specs.List.{AllByRecursion}
 use Rattle.reading.specs.Bodies.{TaskRead}
-use Rattle.reading.specs.Heads.{held}
 use Rattle.reading.specs.Listings.{task_head}
 use Rattle.listing.specs.Loading.{Priced, Are}
 use Rattle.reading.specs.Runs.{cost_of_code}
 use Rattle.reading.specs.Trees.{Task}
 use Rattle.listing.proofs.load.load_tasks.Given as goal
 
-abbrev pub invariant-loop-i : goal.invariant-loop-i
-invariant-loop-i l = (ts : List Task) → held l.tasks ≡ map task_head ts → AllByRecursion (TaskRead l.bytes) ts → AllByRecursion (λ (t : Task). Priced (cost_of_code l.costs) t.blocks) ts → Are (cost_of_code l.costs) (vec_items l.loaded) (take l.i ts)
+abbrev pub invariant-loop-head : goal.invariant-loop-head
+invariant-loop-head l = (ts : List Task) → l.tasks ≡ map task_head ts → AllByRecursion (TaskRead l.bytes) ts → AllByRecursion (λ (t : Task). Priced (cost_of_code l.costs) t.blocks) ts → Are (cost_of_code l.costs) (vec_items l.loaded) (take l.head-index ts)

@@ -1,26 +1,24 @@
-use Rattle.std.proofs.Common.{◌<◌, ◌≤◌, length, Ok, sym, refl, ap, ◌∙◌, arith, rules}
+use Rattle.std.proofs.Common.{◌<◌, ◌≤◌, length, refl, ap, ◌∙◌, arith, rules}
 use Rattle.commands.specs.declared.table.Context.TheVariants.{Body}
 use Rattle.commands.specs.Commands.{answer, after}
-use Rattle.commands.proofs.Decoded.{read_there}
-use Rattle.listing.proofs.Noted.{noting, noted_fault, noted_none, noted_all, note_other, note_call}
+use Rattle.std.specs.Option.{option_flatten}
+use Rattle.listing.proofs.Noted.{noting, flat_some, noted_end, noted_all, note_other, note_call}
 use Rattle.listing.proofs.calls.Calls.of.Goals as goal
 
 pub commands-init : goal.commands-init
 commands-init c =
-    (c.next.ensures.same, noting _ _ _ _ _ c.next.ensures.moved refl refl)
+    (c.next.ensures.same, noting _ _ _ _ _ c.next.ensures.moved c.none.ensures refl)
 
-pub returns-in_default : goal.returns-in_default
-returns-in_default c = noted_fault _ _ _ _ _ c.commands.invariant.1 _ (sym (c.in_default.ensures.told ∙ ap (λ b. answer Body b c.commands.reader.at) c.commands.invariant.0))
-
-pub returns-in_default-read : goal.returns-in_default-read
-returns-in_default-read c =
-    noted_none _ _ _ _ _ c.commands.invariant.1 (sym (c.in-Ok.ensures.told ∙ ap (λ b. answer Body b c.commands.reader.at) c.commands.invariant.0) ∙ ap Ok c.in_default-read.is)
+pub returns : goal.returns
+returns c =
+    let n = c.next-in-commands.ensures in
+    noted_end _ _ _ _ _ c.commands.invariant.1 _ (n.told ∙ ap (λ b. answer Body b c.commands.reader.at) c.commands.invariant.0) (c.in_default.ensures ∙ ap option_flatten c.ok.ensures.value)
 
 pub commands-preserved-in-Call : goal.commands-preserved-in-Call
 commands-preserved-in-Call c =
-    let n = c.in-Ok.ensures in
+    let n = c.next-in-commands.ensures in
     let bs = c.commands.invariant.0 in
-    let e = read_there _ _ c.args.bytes.now _ _ _ _ n.told bs c.in-Some.is in
+    let e = flat_some c.args.bytes.now _ _ _ _ _ _ n.told bs (c.in-Some.ensures ∙ ap option_flatten c.ok.ensures.value) in
     let on = n.moved ∙ ap (λ b. after Body b c.commands.reader.at) bs in
     let long = ap length bs in
     let forth : (c.commands.reader.at < c.next-in-commands.new.self.at) × (c.next-in-commands.new.self.at ≤ length c.commands.reader.bytes.now) = search rules in
@@ -29,16 +27,16 @@ commands-preserved-in-Call c =
 
 pub returns-in-EndRoutine : goal.returns-in-EndRoutine
 returns-in-EndRoutine c =
-    let n = c.in-Ok.ensures in
+    let n = c.next-in-commands.ensures in
     let bs = c.commands.invariant.0 in
-    let e = read_there _ _ c.args.bytes.now _ _ _ _ n.told bs c.in-Some.is in
+    let e = flat_some c.args.bytes.now _ _ _ _ _ _ n.told bs (c.in-Some.ensures ∙ ap option_flatten c.ok.ensures.value) in
     noted_all _ _ _ _ _ c.commands.invariant.1 _ _ e c.in-EndRoutine.is
 
 pub commands-preserved : goal.commands-preserved
 commands-preserved c =
-    let n = c.in-Ok.ensures in
+    let n = c.next-in-commands.ensures in
     let bs = c.commands.invariant.0 in
-    let e = read_there _ _ c.args.bytes.now _ _ _ _ n.told bs c.in-Some.is in
+    let e = flat_some c.args.bytes.now _ _ _ _ _ _ n.told bs (c.in-Some.ensures ∙ ap option_flatten c.ok.ensures.value) in
     let on = n.moved ∙ ap (λ b. after Body b c.commands.reader.at) bs in
     let long = ap length bs in
     let forth : (c.commands.reader.at < c.next-in-commands.new.self.at) × (c.next-in-commands.new.self.at ≤ length c.commands.reader.bytes.now) = search rules in
