@@ -32,7 +32,7 @@ pub record Is (of : ℕ → ℕ) (x : HeldTask) (t : Task) : Type 0 where
   pub code : x.code ≡ t.code
   pub period : x.period ≡ t.period
   pub deadline : x.deadline ≡ t.deadline
-  pub blocks : map (λ (b : Block). b.cost) (vec_items x.blocks.records) ≡ block_costs of t.blocks
+  pub blocks : map (λ (b : Block). b.cost) (vec_items x.blocks) ≡ block_costs of t.blocks
   pub points : map (λ (p : Point). (p.ticks, p.charge)) (vec_items x.points) ≡ points_of t.blocks
 
 -- tasks as they are held are those of a listing, in its order

@@ -3,7 +3,6 @@
 
 mod figures;
 mod piles;
-mod random;
 mod scan;
 mod speed;
 mod trials;

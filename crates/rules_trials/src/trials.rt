@@ -1,6 +1,6 @@
 use crate::piles::Pile;
-use crate::random::Random;
 use crate::scan;
+use random::Random;
 use rules::answer::Answer;
 use rules::deadline::Deadline;
 use rules::exact::Exact;
@@ -99,7 +99,7 @@ fn random_task(random: &mut Random) -> Result<Timing, Refusal> {
 
 // Some random tables of 1 to 6 tasks, each place of each.
 pub fn run(tables: u32) -> Result<Tally, Refusal> {
-    let mut random = Random::new(2463);
+    let mut random = Random { state: 2463 };
     let mut tally = Tally {
         tables,
         ..Tally::default()
