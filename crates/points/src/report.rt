@@ -82,12 +82,11 @@ fn print_found(rt: &HostRuntime, task: &Task, ask: Ask, found: Answer) -> anyhow
 
 // The answer to one question.
 pub(crate) fn print_answer(rt: &HostRuntime, task: &Task, ask: Ask) -> anyhow::Result<()> {
-    match find_points(task, ask) {
-        Ok(Some(found)) => print_found(rt, task, ask, found),
-        Ok(None) => {
+    match find_points(task, ask).map_err(|_| anyhow!("the selection refused its working places"))? {
+        Some(found) => print_found(rt, task, ask, found),
+        None => {
             println!(rt; "{ask}: no choice of points fits")?;
             Ok(())
         }
-        Err(_) => Err(anyhow!("the selection refused its working places")),
     }
 }

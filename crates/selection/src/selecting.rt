@@ -29,6 +29,7 @@ pub fn select<M: Measure>(
         costs: running_costs(task),
     };
     let links = limited.link(places);
+    // No answer is one of the answers, so `?` cannot pass it on.
     let Some(value) = links.value else {
         return Ok(None);
     };
@@ -36,6 +37,7 @@ pub fn select<M: Measure>(
     let mut points = 0u64;
     let mut longest = 0u32;
     let mut end = blocks;
+    // From an end to the start that is chosen for it: no iterator goes this way.
     while end > 0 {
         let start = links.starts[end - 1];
         longest = longest.max(limited.length(start, end - 1));

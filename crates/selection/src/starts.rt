@@ -91,7 +91,9 @@ impl Limited<'_> {
         let mut heap = Heap::new(places);
         let mut starts = [0usize; 64];
         let mut value = Some(M::none());
+        // Each end is a number that is asked about, and not only the place of an item.
         for end in 0..self.task.block_count() {
+            // As `if let` and `map`, this is not covered by the borrow checker's part of the proof.
             value = match self.advance(&mut heap, value, end) {
                 Some(picked) => {
                     starts[end] = picked.start;

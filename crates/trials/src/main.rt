@@ -42,9 +42,7 @@ fn compare_all(heap: Global) -> Result<(Tally, Tally), Refusal> {
 
 fn main(rt: HostRuntime) -> anyhow::Result<()> {
     figures();
-    let Ok((ticks, charge)) = compare_all(rt.alloc()) else {
-        return Err(anyhow!("no task could be made"));
-    };
+    let (ticks, charge) = compare_all(rt.alloc()).map_err(|_| anyhow!("no task could be made"))?;
     println!(rt; "ticks alone: {ticks}")?;
     println!(rt; "ticks, then charge: {charge}")?;
     Ok(())
