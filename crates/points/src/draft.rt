@@ -121,9 +121,7 @@ impl Draft {
         if asks.is_empty() {
             return Err(Problem::NoLimit);
         }
-        let task = Task::new(clock.code, clock.period, clock.deadline, blocks, points).map_err(
-            |_| Problem::NoTask,
-        )?;
+        let task = Task::new(clock, blocks, points).map_err(|_| Problem::NoTask)?;
         Ok((task, asks))
     }
 }

@@ -5,7 +5,7 @@ ghost use Rattle.tasks.specs.Tasks.{point_count};
 ghost use Rattle.tasks.specs.declared.refusals.Refusal.TheVariants.{OutOfRange, NoSuch};
 
 use crate::blocks::Block;
-use crate::clock::is_clock;
+use crate::clock::{Clock, is_clock};
 use crate::model::Task;
 use crate::points::Point;
 use crate::refusals::Refusal;
@@ -25,17 +25,16 @@ fn all_costs_fit(blocks: &[Block]) -> bool
 
 impl Task {
     // A task of plain numbers, or a refusal where one of them is outside its range.
-    pub fn new(
-        code: u8,
-        period: u32,
-        deadline: u32,
-        blocks: Vec<Block>,
-        points: Vec<Point>,
-    ) -> Result<Task, Refusal>
-        ensures test { is_ok result ≡ (clock_fits period deadline && body_fits blocks.items (vec_len blocks) (vec_len points)) }
-        ensures made { IfOk result (λ t. (t.code ≡ code) × (t.period ≡ period) × (t.deadline ≡ deadline) × (t.blocks ≡ blocks) × (t.points ≡ points)) }
+    pub fn new(clock: Clock, blocks: Vec<Block>, points: Vec<Point>) -> Result<Task, Refusal>
+        ensures test { is_ok result ≡ (clock_fits clock.period clock.deadline && body_fits blocks.items (vec_len blocks) (vec_len points)) }
+        ensures made { IfOk result (λ t. (t.code ≡ clock.code) × (t.period ≡ clock.period) × (t.deadline ≡ clock.deadline) × (t.blocks ≡ blocks) × (t.points ≡ points)) }
         ensures refused { IfErr result (λ e. e ≡ OutOfRange) }
     {
+        let Clock {
+            code,
+            period,
+            deadline,
+        } = clock;
         if !is_clock(period, deadline) {
             return Err(Refusal::OutOfRange);
         }

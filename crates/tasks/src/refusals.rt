@@ -17,6 +17,7 @@ pub enum Refusal {
     NoMemory,
 }
 
+// Written by hand, as the clauses of callers read what `?` makes of it.
 impl From<AllocError> for Refusal {
     ghost from_gives = { λ _ r. r ≡ NoMemory };
 
@@ -34,7 +35,7 @@ impl<T: Drop> From<AllocFailed<T>> for Refusal {
 }
 
 impl Refusal {
-    // Its number in the table of refusals; 0 for want of memory, which the table does not have.
+    // Its number in the table of refusals, which is printed with it; 0 for want of memory, which the table does not have.
     pub fn number(self) -> u8
         ensures { result ≡ number self }
     {

@@ -2,6 +2,7 @@
 use random::Random;
 use std::alloc::Global;
 use tasks::blocks::Block;
+use tasks::clock::Clock;
 use tasks::model::Task;
 use tasks::points::Point;
 use tasks::refusals::Refusal;
@@ -28,5 +29,10 @@ pub(crate) fn task(random: &mut Random, heap: Global) -> Result<Task, Refusal> {
         let cost = 1 + random.below(9);
         blocks.push(Block { cost })?;
     }
-    Task::new(0, 1000, 1000, blocks, points)
+    let clock = Clock {
+        code: 0,
+        period: 1000,
+        deadline: 1000,
+    };
+    Task::new(clock, blocks, points)
 }
