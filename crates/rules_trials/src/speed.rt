@@ -48,6 +48,7 @@ struct Round {
     tolerance: i64,
 }
 
+// Each table is in range, so none is refused and no 0 is told in its place.
 fn measured(rt: &impl Clock) -> io::Result<Round> {
     let start = Instant::now(rt)?;
     let sum = asked().unwrap_or(0);
