@@ -3,7 +3,7 @@ use Rattle.std.proofs.Common.{◌≡◌, ℕ, zero, suc, ◌+◌, ◌-◌, ◌*�
 use Rattle.std.proofs.Permutation.{which}
 use Rattle.std.proofs.ByRecursion.{All-from_get_or}
 use Rattle.std.specs.Prelude.{slice_get, Option, MatchOption, [], ◌∷◌}
-use Rattle.std.specs.List.{ContainsAt}
+use Rattle.std.specs.List.{Contains}
 use Rattle.std.specs.Cmp.{IsTotalOrder}
 use Rattle.std.specs.declared.cmp.Ordering.{Ordering}
 use Rattle.heap.specs.Heaps.{HeapedWithin, NoChildBefore, Heaped, Least}
@@ -136,8 +136,8 @@ module _ {X : Type 0} (cmp : X → X → Ordering) where
 
     -- what is said of the first item of a heap, where it has one
     abbrev Firsts : List X → Option X → Type 0
-    Firsts xs r = MatchOption r (xs ≡ []) (λ x. ContainsAt xs x × Least before x xs)
+    Firsts xs r = MatchOption r (xs ≡ []) (λ x. Contains xs x × Least before x xs)
 
     pub first_of : (xs : List X) (r : Option X) → r ≡ slice_get xs 0 → Heaped before xs → Firsts xs r
     first_of [] r e h = subst (Firsts []) (sym e) refl
-    first_of (x ∷ xs) r e h = subst (Firsts (x ∷ xs)) (sym e) ((0, omega arith, λ d. refl), first_least (x ∷ xs) x refl h)
+    first_of (x ∷ xs) r e h = subst (Firsts (x ∷ xs)) (sym e) ((0, omega arith, refl), first_least (x ∷ xs) x refl h)

@@ -2,7 +2,7 @@
 ghost use Rattle.std.specs.Prelude.{◌≡◌, ◌+◌, ◌-◌, ◌<◌, false, [], ◌∷◌, ◌++◌, drop, is_ok, if◌then◌else◌, MatchOption, nat_lt};
 ghost use Rattle.std.specs.List.Sorted.{IsPermutation};
 ghost use Rattle.std.specs.Option.{option_to_list};
-ghost use Rattle.std.specs.List.{ContainsAt as Has};
+ghost use Rattle.std.specs.List.{Contains};
 ghost use Rattle.heap.specs.Heaps.{Least};
 ghost use Rattle.heap.specs.Held.{size, room, held, top, rest};
 ghost use Rattle.heap.specs.Orders.{before_by};
@@ -35,7 +35,7 @@ impl<'a, T: Ord + Copy> Heap<'a, T> {
     // A least item.
     pub fn peek(&self) -> Option<T>
         ensures value { result ≡ top self.now }
-        ensures cases { MatchOption result (held self.now ≡ []) (λ x. Has (held self.now) x × Least (before_by T.cmp) x (held self.now)) }
+        ensures cases { MatchOption result (held self.now ≡ []) (λ x. Contains (held self.now) x × Least (before_by T.cmp) x (held self.now)) }
     {
         self.slots[0..self.len].first().copied()
     }

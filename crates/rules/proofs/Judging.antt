@@ -1,11 +1,12 @@
 -- The best answer of the walk, as far as it has come.
 use Rattle.std.proofs.Common.{◌≡◌, ℕ, suc, ◌+◌, ◌<◌, ◌≤◌, Bool, true, false, cond, List, ◌∷◌, ℤ, pos, ◌-ℤ◌, ◌≤ℤ◌, ◌<ℤ◌, sum_by, sym, refl, ap, ◌∙◌, subst, ap₂, ⊎_elim, arith}
 use lib.Signed.{lt_z}
-use Rattle.std.proofs.ByRecursion.{all-has, All-weaker}
+use Rattle.std.proofs.lemmas.List.Elements.{All-contains, All-from_recursion}
+use Rattle.std.proofs.ByRecursion.{All-weaker}
 use Rattle.std.proofs.lemmas.Int.{ints}
 use Rattle.std.proofs.lemmas.Bool.{cases_lt, cond-true, cond-false}
 use Rattle.std.specs.List.Sorted.{IsPermutation}
-use Rattle.std.specs.List.{ContainsAt as Has, AllByRecursion}
+use Rattle.std.specs.List.{Contains, AllByRecursion}
 use Rattle.tasks.specs.declared.timings.Timing.{Timing}
 use Rattle.rules.specs.declared.multiple.Multiple.{Multiple}
 use Rattle.rules.specs.Peaks.{better, peak}
@@ -61,11 +62,11 @@ module _ (ts : List Timing) (p : ℕ) where
   slack_there met m xs sum a e least h = let over = slack_over met m xs sum a e least in let under = slack_under met m xs sum a e h in omega (arith, ints)
 
   -- one multiple more
-  pub walk_meets : (x y : Multiple) (xs ys : List Multiple) (sum : ℕ) (tolerance : ℤ) (moment met : ℕ) (tolerance' : ℤ) (moment' : ℕ) → Has xs x → AllByRecursion (λ z. x.at ≤ z.at) xs → x.at < deadline_at ts p → y.task ≡ x.task → y.at ≡ x.at + (task_of ts x).period → IsPermutation (y ∷ xs) (x ∷ ys) → tolerance' ≡ cond (lt_z tolerance (pos x.at -ℤ pos sum)) (pos x.at -ℤ pos sum) tolerance → moment' ≡ cond (lt_z tolerance (pos x.at -ℤ pos sum)) x.at moment → Walked ts p xs sum tolerance moment met → Walked ts p ys (sum + (task_of ts x).cost) tolerance' moment' x.at
+  pub walk_meets : (x y : Multiple) (xs ys : List Multiple) (sum : ℕ) (tolerance : ℤ) (moment met : ℕ) (tolerance' : ℤ) (moment' : ℕ) → Contains xs x → AllByRecursion (λ z. x.at ≤ z.at) xs → x.at < deadline_at ts p → y.task ≡ x.task → y.at ≡ x.at + (task_of ts x).period → IsPermutation (y ∷ xs) (x ∷ ys) → tolerance' ≡ cond (lt_z tolerance (pos x.at -ℤ pos sum)) (pos x.at -ℤ pos sum) tolerance → moment' ≡ cond (lt_z tolerance (pos x.at -ℤ pos sum)) x.at moment → Walked ts p xs sum tolerance moment met → Walked ts p ys (sum + (task_of ts x).cost) tolerance' moment' x.at
   walk_meets x y xs ys sum tolerance moment met tolerance' moment' has least early e h moved more later w =
       let f = slack_at ts p in
       let m = x.at in
-      let at = all-has (Next ts p met) xs x w.holds.each has in
+      let at = All-contains (Next ts p met) xs x (All-from_recursion (Next ts p met) xs w.holds.each) has in
       let moves = replaces ts p met x y xs ys has least e h moved w.holds in
       let best = judges at.after at.some in
       record { holds = moves.0; carries = omega (arith, moves.1, w.carries); early = early; first = best.0; most = best.1 }

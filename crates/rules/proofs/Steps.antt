@@ -1,13 +1,14 @@
 -- The heap of the next multiples: what one step does to it and to the demand that is carried.
 use Rattle.std.proofs.Common.{◌≡◌, ℕ, suc, ◌+◌, ◌-◌, ◌*◌, ◌/◌, ◌<◌, ◌≤◌, false, List, [], ◌∷◌, length, get_or, take, sum_by, sym, ap, ◌∙◌, le_refl, div-lt_iff_lt-mul, add-mul, mul-le-mul_left, one-mul, le-div_iff_mul-le, mul-one, mul-add, arith}
 use native.Mathlib.Nat.{div_self, add-div_right}
-use Rattle.std.proofs.ByRecursion.{all-has, All-weaker, all_shuffled}
+use Rattle.std.proofs.lemmas.List.Elements.{All-contains, All-from_recursion}
+use Rattle.std.proofs.ByRecursion.{All-weaker, all_shuffled}
 use Rattle.std.proofs.lemmas.List.{length-take}
 use Rattle.std.proofs.lemmas.List.Sorted.{sum_by-IsPermutation}
 use Rattle.std.proofs.lemmas.List.Sums.{sum_by-cons, sum_by_more}
 use Rattle.std.proofs.lemmas.Bool.Decides.{nat_tests}
 use Rattle.std.specs.List.Sorted.{IsPermutation}
-use Rattle.std.specs.List.{ContainsAt as Has, AllByRecursion}
+use Rattle.std.specs.List.{Contains, AllByRecursion}
 use Rattle.heap.specs.Heaps.{Least}
 use Rattle.heap.specs.Orders.{before_by}
 use Rattle.tasks.specs.declared.timings.Timing.{Timing}
@@ -126,9 +127,9 @@ module _ (ts : List Timing) where
         }
 
   -- the least multiple gives way to the next one of its task
-  pub replaces : (n met : ℕ) (x y : Multiple) (xs ys : List Multiple) → Has xs x → AllByRecursion (λ z. x.at ≤ z.at) xs → y.task ≡ x.task → y.at ≡ x.at + (task_of ts x).period → IsPermutation (y ∷ xs) (x ∷ ys) → Holds ts n met xs → Holds ts n x.at ys × (sum_by (carried ts) ys ≡ sum_by (carried ts) xs + (task_of ts x).cost)
+  pub replaces : (n met : ℕ) (x y : Multiple) (xs ys : List Multiple) → Contains xs x → AllByRecursion (λ z. x.at ≤ z.at) xs → y.task ≡ x.task → y.at ≡ x.at + (task_of ts x).period → IsPermutation (y ∷ xs) (x ∷ ys) → Holds ts n met xs → Holds ts n x.at ys × (sum_by (carried ts) ys ≡ sum_by (carried ts) xs + (task_of ts x).cost)
   replaces n met x y xs ys has least e h moved a =
-      let at = all-has (Next ts n met) xs x a.each has in
+      let at = All-contains (Next ts n met) xs x (All-from_recursion (Next ts n met) xs a.each) has in
       let old = later xs least a.each at.after in (
         record {
           each = (all_shuffled (Next ts n x.at) (y ∷ xs) (x ∷ ys) moved (next_more x y e h n met at, old)).1;

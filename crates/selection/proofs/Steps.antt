@@ -1,10 +1,10 @@
 -- One block more for the heap of candidates.
 use Rattle.std.proofs.Common.{◌≡◌, ℕ, zero, suc, ◌+◌, ◌<◌, ◌≤◌, Bool, true, false, cond, ltb, List, [], ◌∷◌, length, get_or, set, Some, None, Option, sym, refl, ap, ◌∙◌, subst, ap₂, inl, inr, ⊎_elim, arith, get_or-set_other, get_or-set_same, MatchOption}
-use Rattle.std.specs.List.{ContainsAt as Has}
+use Rattle.std.specs.List.{Contains}
 use Rattle.std.specs.List.Sorted.{IsPermutation}
 use Rattle.std.proofs.Permutation.{which}
-use Rattle.std.proofs.ByRecursion.{all-has, has_shuffled}
-use Rattle.std.proofs.lemmas.List.Sorted.{IsPermutation-sym}
+use Rattle.std.proofs.lemmas.List.Elements.{All-contains, All-from_recursion, Contains-append_right}
+use Rattle.std.proofs.lemmas.List.Sorted.{IsPermutation-sym, Contains-permutation}
 use Rattle.std.proofs.lemmas.Bool.Decides.{nat_tests}
 use Rattle.heap.specs.Heaps.{Least}
 use Rattle.tasks.specs.declared.model.Task.{Task}
@@ -20,7 +20,7 @@ use Rattle.selection.specs.Linked.{value_of, with_point, reaches, selected, offe
 use Rattle.selection.specs.Running.{stretch_from}
 use Rattle.selection.specs.Selections.{Chosen, joined_at}
 use Rattle.selection.proofs.Best as best
-use Rattle.selection.proofs.Items.{has_first, has_later, has_cases, has_none}
+use Rattle.selection.proofs.Items.{Contains-cons_cases}
 use Rattle.selection.proofs.Law as law
 
 pub value_none : {V : Type 0} (x : Option (Chosen V)) → value_of x ≡ None → x ≡ None
@@ -68,10 +68,10 @@ module _ {V : Type 0} (before : V → V → Bool) (none : V) (join : V → Point
       sound = λ y g. ⊎_elim
           (λ same. subst (λ z. (z.start < suc k) × (value_of (proposed before none join t limit z.start) ≡ Some z.value)) same (omega (arith, at), ap (λ i. value_of (proposed before none join t limit i)) at ∙ proposes k v e ∙ ap Some (sym is)))
           (λ was. let r = h.sound y was in (omega (arith, r.0), r.1))
-          (has_cases x y old (has_shuffled new (x ∷ old) y (IsPermutation-sym (x ∷ old) new moved) g));
+          (Contains-cons_cases x y old (Contains-permutation new (x ∷ old) y (IsPermutation-sym (x ∷ old) new moved) g));
       complete = λ j s l p. ⊎_elim
-          (λ same. inl (has_shuffled (x ∷ old) new _ moved (subst (λ z. Has (x ∷ old) z) (the_same j s same p) (has_first x old))))
-          (λ ne. ⊎_elim (λ g. inl (has_shuffled (x ∷ old) new _ moved (has_later x _ old g))) inr (h.complete j s (omega arith) p))
+          (λ same. inl (Contains-permutation (x ∷ old) new _ moved (subst (λ z. Contains (x ∷ old) z) (the_same j s same p) (0, omega arith, refl))))
+          (λ ne. ⊎_elim (λ g. inl (Contains-permutation (x ∷ old) new _ moved (Contains-append_right (x ∷ []) old _ g))) inr (h.complete j s (omega arith) p))
           (which j k);
     }
       where
@@ -111,7 +111,7 @@ module _ {V : Type 0} (before : V → V → Bool) (none : V) (join : V → Point
     unreached : (k j : ℕ) (new : List (Candidate V)) → new ≡ [] → Holds before none join t limit (suc k) (suc k) new → j < suc k → (x : Option (Chosen V)) → proposed before none join t limit j ≡ x → offered before none join t limit k j ≡ None
     unreached k j new e h l None p = offered_is k j ∙ ap (λ x. cond (reaches t limit k j) x None) p ∙ either (reaches t limit k j)
     unreached k j new e h l (Some s) p = ⊎_elim
-        (λ g. absurd (has_none _ (subst (λ xs. Has xs (record { value = s.value; start = j })) e g)))
+        (λ g. absurd (let none = subst (λ xs. Contains xs (record { value = s.value; start = j })) e g in omega (arith, none.1)))
         (λ f. offered_is k j ∙ ap (λ b. cond b (proposed before none join t limit j) None) (f k (omega arith)))
         (h.complete j s l p)
 
@@ -129,12 +129,12 @@ module _ {V : Type 0} (before : V → V → Bool) (none : V) (join : V → Point
       rival i u l e =
           let r = law.some_cond (reaches t limit k i) (proposed before none join t limit i) u (sym (offered_is k i) ∙ e) in
           ⊎_elim
-          (λ g. all-has (λ y. sooner before y x ≡ false) new _ least g)
+          (λ g. All-contains (λ y. sooner before y x ≡ false) new _ (All-from_recursion (λ y. sooner before y x ≡ false) new least) g)
           (λ f. absurd (let no = f k (omega arith) in let yes = r.0 in let z : ◌≡◌ {A = ℕ} 0 1 = cc in omega arith))
           (h.complete i u l r.1)
 
     pub picks : (k : ℕ) (new : List (Candidate V)) (top : Option (Candidate V)) → Holds before none join t limit (suc k) (suc k) new
-        → MatchOption top (new ≡ []) (λ x. Has new x × (reaches t limit k x.start ≡ true) × Least (sooner before) x new)
+        → MatchOption top (new ≡ []) (λ x. Contains new x × (reaches t limit k x.start ≡ true) × Least (sooner before) x new)
         → Picked before none join t limit k top
     picks k new None h first = law.selection_is before none join (cost_of_block t) (point_at t) limit asym chain k ∙ best.best_of_none before none join (cost_of_block t) (point_at t) limit asym chain (offered before none join t limit k) (suc k) (λ j l. unreached k j new first h l (proposed before none join t limit j) refl)
     picks k new (Some x) h first =

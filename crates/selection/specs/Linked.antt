@@ -1,6 +1,6 @@
 -- What the heap of candidates and the chosen starts say of the selections.
 use Rattle.std.specs.Prelude.{◌≡◌, ℕ, zero, suc, ◌<◌, ◌≤◌, Bool, true, false, ◌⊎◌, List, [], Some, None, Option, MatchOption, slice_index}
-use Rattle.std.specs.List.{ContainsAt as Has}
+use Rattle.std.specs.List.{Contains}
 use Rattle.heap.specs.Heaps.{Least}
 use Rattle.tasks.specs.declared.model.Task.{Task}
 use Rattle.tasks.specs.declared.points.Point.{Point}
@@ -41,8 +41,8 @@ module _ {V : Type 0} (before : V → V → Bool) (none : V) (join : V → Point
 
   -- The heap holds what the starts below n propose, and of these all but some that are out of reach from the end on.
   pub record Holds (n end : ℕ) (held : List (Candidate V)) : Type 0 where
-    pub sound : (x : Candidate V) → Has held x → (x.start < n) × (value_of (proposed x.start) ≡ Some x.value)
-    pub complete : (j : ℕ) (s : Chosen V) → j < n → proposed j ≡ Some s → Has held (record { value = s.value; start = j }) ⊎ ((k : ℕ) → end ≤ suc k → reaches t limit k j ≡ false)
+    pub sound : (x : Candidate V) → Contains held x → (x.start < n) × (value_of (proposed x.start) ≡ Some x.value)
+    pub complete : (j : ℕ) (s : Chosen V) → j < n → proposed j ≡ Some s → Contains held (record { value = s.value; start = j }) ⊎ ((k : ℕ) → end ≤ suc k → reaches t limit k j ≡ false)
 
   -- the candidate of the selection for the blocks up to index k
   abbrev pub Picked : ℕ → Option (Candidate V) → Type 0
@@ -55,6 +55,6 @@ module _ {V : Type 0} (before : V → V → Bool) (none : V) (join : V → Point
 
 -- What is left of the candidates once those out of reach are taken off the top: the top is within reach and a first one, or none is left.
 pub record Cleared {V : Type 0} (before : V → V → Bool) (t : Task) (limit : Option ℕ) (k : ℕ) (old new : List (Candidate V)) (top : Option (Candidate V)) : Type 0 where
-  pub kept : (x : Candidate V) → Has new x → Has old x
-  pub gone : (x : Candidate V) → Has old x → Has new x ⊎ (reaches t limit k x.start ≡ false)
-  pub first : MatchOption top (new ≡ []) (λ x. Has new x × (reaches t limit k x.start ≡ true) × Least (sooner before) x new)
+  pub kept : (x : Candidate V) → Contains new x → Contains old x
+  pub gone : (x : Candidate V) → Contains old x → Contains new x ⊎ (reaches t limit k x.start ≡ false)
+  pub first : MatchOption top (new ≡ []) (λ x. Contains new x × (reaches t limit k x.start ≡ true) × Least (sooner before) x new)

@@ -1,6 +1,6 @@
 // The choice of a start for each block, by a heap of candidates.
 ghost use Rattle.std.specs.Prelude.{◌≡◌, ◌+◌, ◌<◌, ◌≤◌, length};
-ghost use Rattle.std.specs.List.{ContainsAt as Has};
+ghost use Rattle.std.specs.List.{Contains};
 ghost use Rattle.heap.specs.Held.{size, room, held};
 ghost use Rattle.heap.specs.Orders.{before_by};
 ghost use Rattle.tasks.specs.Tasks.{point_count};
@@ -44,7 +44,7 @@ impl Limited<'_> {
         heap: &mut Heap<'_, Candidate<M>>,
         end: usize,
     ) -> Option<Candidate<M>>
-        requires starts { (x : CandidateOf M) → Has (held heap.old) x → x.start ≤ end }
+        requires starts { (x : CandidateOf M) → Contains (held heap.old) x → x.start ≤ end }
         requires end { end ≤ point_count self.now.task.now }
         ensures cleared { Cleared (before_by M.cmp) self.now.task.now self.now.limit end (held heap.old) (held heap.new) result }
         ensures room { room heap.new ≡ room heap.old }

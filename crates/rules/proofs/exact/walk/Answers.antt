@@ -1,6 +1,7 @@
 use Rattle.std.proofs.Common.{◌≡◌, ◌+◌, ◌<◌, ◌≤◌, cond, length, pos, ◌-ℤ◌, ◌≤ℤ◌, ◌<ℤ◌, Some, sym, refl, ap, ◌∙◌, subst, arith, w64, rules}
 use lib.Signed.{lt_z}
-use Rattle.std.proofs.ByRecursion.{all-has, All-weaker}
+use Rattle.std.proofs.lemmas.List.Elements.{All-contains, All-from_recursion}
+use Rattle.std.proofs.ByRecursion.{All-weaker}
 use Rattle.std.proofs.lemmas.List.{get_or_read}
 use Rattle.std.proofs.lemmas.Option.{MatchOption-at_some}
 use Rattle.std.proofs.lemmas.Int.{to_z-of_z}
@@ -42,7 +43,8 @@ returns-then-deadline-next c =
 next_there : (c : After-replace_top) → c.in-Some.next.task < length c.args.question.tasks.now
 next_there c =
     let w = c.loop-best.invariant.walked.1 in
-    let at = all-has (Next c.args.question.tasks.now c.args.question.place c.loop-best.invariant.walked.0) (held c.loop-best.heap) c.in-Some.next w.holds.each c.in-Some.ensures.cases.0 in
+    let there = Next c.args.question.tasks.now c.args.question.place c.loop-best.invariant.walked.0 in
+    let at = All-contains there (held c.loop-best.heap) c.in-Some.next (All-from_recursion there (held c.loop-best.heap) w.holds.each) c.in-Some.ensures.cases.0 in
     omega (arith, at.there, c.args.question.asked.last)
 
 task_is : (c : After-replace_top) → c.index-question-next.result ≡ task_of c.args.question.tasks.now c.in-Some.next
