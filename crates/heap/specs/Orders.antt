@@ -1,10 +1,10 @@
 -- An order as a test: x comes before y where `cmp` answers `Less`.
-use Rattle.std.specs.Prelude.{◌≡◌, Bool, true, false}
+use Rattle.std.specs.Prelude.{◌≡◌, ℕ, Bool, true, false, cond, nat_lt}
 use Rattle.std.specs.declared.cmp.Ordering.{Ordering}
 use Rattle.std.specs.declared.cmp.Ordering.TheVariants.{Less, Equal, Greater}
 use Rattle.std.specs.Ordering.{is_lt, is_gt, ordering_reverse}
 use Rattle.std.specs.Cmp.{IsTotalOrder, upto}
-use Rattle.std.proofs.Common.{refl, sym, ap, ◌∙◌}
+use Rattle.std.proofs.Common.{refl, sym, ap, ◌∙◌, rules, arith}
 
 abbrev pub before_by : {X : Type 0} → (X → X → Ordering) → X → X → Bool
 before_by cmp x y = is_lt (cmp x y)
@@ -31,3 +31,31 @@ module _ {X : Type 0} {cmp : X → X → Ordering} (total : IsTotalOrder cmp) wh
   -- "does not come before" goes on from one pair of items to the next
   pub before_chain : (x y z : X) → before_by cmp x y ≡ false → before_by cmp y z ≡ false → before_by cmp x z ≡ false
   before_chain x y z p q = before_turned z x ∙ upto total z y x (sym (before_turned z y) ∙ q) (sym (before_turned y x) ∙ p)
+
+-- ---- orders that are given as tests
+
+-- pairs: the first part decides, then the second
+abbrev pub lexical : {X Y : Type 0} → (X → X → Bool) → (Y → Y → Bool) → X × Y → X × Y → Bool
+lexical first second x y = cond (first x.0 y.0) true (cond (first y.0 x.0) false (second x.1 y.1))
+
+-- numbers: of two at most one is less
+pub nat_lt_asym : (x y : ℕ) → nat_lt x y ≡ true → nat_lt y x ≡ false
+nat_lt_asym x y = search rules
+
+-- numbers: "is not less" goes on
+pub nat_lt_chain : (x y z : ℕ) → nat_lt x y ≡ false → nat_lt y z ≡ false → nat_lt x z ≡ false
+nat_lt_chain x y z = search rules
+
+-- pairs: of two at most one comes before the other
+pub lexical_asym : {X Y : Type 0} (first : X → X → Bool) (second : Y → Y → Bool)
+    → ((x y : X) → first x y ≡ true → first y x ≡ false) → ((x y : Y) → second x y ≡ true → second y x ≡ false)
+    → (x y : X × Y) → lexical first second x y ≡ true → lexical first second y x ≡ false
+lexical_asym first second f s x y = grind (arith, f, s)
+
+-- pairs: "does not come before" goes on
+pub lexical_chain : {X Y : Type 0} (first : X → X → Bool) (second : Y → Y → Bool)
+    → ((x y : X) → first x y ≡ true → first y x ≡ false)
+    → ((x y z : X) → first x y ≡ false → first y z ≡ false → first x z ≡ false)
+    → ((x y z : Y) → second x y ≡ false → second y z ≡ false → second x z ≡ false)
+    → (x y z : X × Y) → lexical first second x y ≡ false → lexical first second y z ≡ false → lexical first second x z ≡ false
+lexical_chain first second f c s x y z = grind (arith, f, c, s)

@@ -10,6 +10,7 @@ ghost use Rattle.heap.specs.Orders.{before_by};
 use crate::sift::{sift_down, sift_up};
 use crate::{Full, Heap};
 
+// That room, rest and name of the slots stay ties two states of a heap, so each method says it: no type does.
 impl<'a, T: Ord + Copy> Heap<'a, T> {
     // Puts x among the items, or refuses where every slot is in use, and then changes nothing.
     pub fn push(&mut self, x: T) -> Result<(), Full>

@@ -16,10 +16,9 @@ use std::process::ExitCode;
 // The input, line by line; a problem is told with the number of its line.
 fn read(rt: &HostRuntime) -> anyhow::Result<Draft> {
     let mut draft = Draft::new(rt.alloc());
-    let mut number = 0u32;
-    for text in rt.lines(rt.alloc()) {
+    for (i, text) in rt.lines(rt.alloc()).enumerate() {
         let text = text?;
-        number = number.saturating_add(1);
+        let number = i.saturating_add(1);
         let added = read_line(text.as_str()).and_then(|line| draft.add(line));
         if let Err(problem) = added {
             return Err(anyhow!(format!(in rt.alloc(); "line {number}: {problem}")?));

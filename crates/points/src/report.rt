@@ -7,6 +7,7 @@ use selection::answer::Selection;
 use selection::candidate::Candidate;
 use selection::selecting::select;
 use std::fmt;
+use tasks::choices::Stretch;
 use tasks::model::Task;
 use tasks::refusals::Refusal;
 
@@ -38,6 +39,7 @@ fn best<M: Measure>(
 }
 
 fn find_points(task: &Task, ask: Ask) -> Result<Option<Answer>, Refusal> {
+    // Each case has a type of its own, so a match picks it.
     match ask.by {
         By::Ticks => best::<Ticks>(task, ask.limit, &mut [Candidate::default(); 65]),
         By::TicksCharge => best::<TicksCharge>(task, ask.limit, &mut [Candidate::default(); 65]),
@@ -60,14 +62,33 @@ impl fmt::Display for PointList<'_> {
     }
 }
 
+// A stretch by its blocks and its length.
+#[derive(Clone, Copy)]
+struct Shown(Stretch);
+
+impl fmt::Display for Shown {
+    fn fmt<W: fmt::Write>(&self, f: &mut fmt::Formatter<W>) -> fmt::Result {
+        let Stretch {
+            first,
+            last,
+            length,
+        } = self.0;
+        if first == last {
+            write!(f, "block {first}: {length} ticks")
+        } else {
+            write!(f, "blocks {first} to {last}: {length} ticks")
+        }
+    }
+}
+
 // An answer as it is printed: cost, points and longest stretch, and then each stretch with its blocks and length.
 fn print_found(rt: &HostRuntime, task: &Task, ask: Ask, found: Answer) -> anyhow::Result<()> {
-    let (Ok(numbers), Ok(stretches)) = (
-        task.chosen(rt.alloc(), found.points),
-        task.stretches(rt.alloc(), found.points),
-    ) else {
-        return Err(anyhow!("no memory is left"));
-    };
+    let numbers = task
+        .chosen(rt.alloc(), found.points)
+        .map_err(|_| anyhow!("no memory is left"))?;
+    let stretches = task
+        .stretches(rt.alloc(), found.points)
+        .map_err(|_| anyhow!("no memory is left"))?;
     println!(rt;
         "{ask}: cost {}, points{}, longest stretch {}",
         found.cost,
@@ -75,7 +96,7 @@ fn print_found(rt: &HostRuntime, task: &Task, ask: Ask, found: Answer) -> anyhow
         found.longest
     )?;
     for stretch in &stretches {
-        println!(rt; "  {stretch}")?;
+        println!(rt; "  {}", Shown(*stretch))?;
     }
     Ok(())
 }

@@ -21,9 +21,9 @@ impl Random {
             .state
             .wrapping_mul(6_364_136_223_846_793_005)
             .wrapping_add(1_442_695_040_888_963_407);
-        match (self.state >> 33).checked_rem(u64::from(end)) {
-            Some(drawn) => drawn as u32,
-            None => 0,
-        }
+        // The rest of a division by a `u32` fits one, and std has no `From<u64>` for it.
+        (self.state >> 33)
+            .checked_rem(u64::from(end))
+            .map_or(0, |drawn| drawn as u32)
     }
 }

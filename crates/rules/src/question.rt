@@ -1,4 +1,4 @@
-ghost use Rattle.std.specs.Prelude.{◌≡◌, ◌↔◌, ◌-◌, IsSome, IfSome, take, slice_index_or};
+ghost use Rattle.std.specs.Prelude.{◌≡◌, ◌↔◌, IsSome, IfSome, take};
 ghost use Rattle.rules.specs.Tables.{Asked, deadline_at};
 
 use tasks::timings::Timing;
@@ -17,7 +17,7 @@ impl<'a> Question<'a> {
         ensures some { IsSome result ↔ Asked tasks.now place }
         ensures holds { IfSome result (λ q. (q.tasks.now ≡ tasks.now) × (q.place ≡ place)) }
     {
-        if tasks.len() <= 32 && 1 <= place && place <= tasks.len() {
+        if tasks.len() <= 32 && (1..=tasks.len()).contains(&place) {
             Some(Question { tasks, place })
         } else {
             None

@@ -2,7 +2,6 @@ pub mod Best
 pub mod Items
 pub mod Law
 pub mod Runs
-pub mod Sooner
 pub mod Steps
 pub mod Walk
 pub mod Whole

@@ -173,3 +173,15 @@ module _ {V : Type 0} (before : V → V → Bool) (none : V) (join : V → Point
         (λ same. let q : selected before none join t limit (suc j) ≡ None = ap (λ i. selected before none join t limit (suc i)) same ∙ p in absurd (let z : ◌≡◌ {A = ℕ} 0 1 = cc in omega arith))
         (λ ne. h j s (omega arith) e)
         (which j k)
+
+    -- a start put at k changes none before
+    pub linked_put : (k : ℕ) (starts : List ℕ) (x : ℕ) → Linked before none join t limit k starts → Linked before none join t limit k (set starts k x)
+    linked_put k starts x h j s l e = let r = h j s l e in let there = get_or-set_other starts k j x 0 (omega arith) in (omega (arith, there, r.0), ap (offered before none join t limit j) there ∙ r.1)
+
+    -- one end more, by what is picked there
+    pub linked_step : (k : ℕ) (starts : List ℕ) (o : Option (Candidate V)) (start : ℕ) (value : Option V) → k < length starts → Linked before none join t limit k starts → Picked before none join t limit k o
+        → MatchOption o (start ≡ 0) (λ x. start ≡ x.start) → MatchOption o (value ≡ None) (λ x. value ≡ Some x.value)
+        → (value ≡ value_of (selected before none join t limit (suc k))) × Linked before none join t limit (k + 1) (set starts k start)
+    linked_step k starts None start value room h p a b = (b ∙ ap value_of (sym p), linked_none k (set starts k start) (linked_put k starts start h) p)
+    linked_step k starts (Some x) start value room h p a b =
+        (b ∙ ap Some (sym p.2) ∙ ap value_of (sym p.1), subst (λ n. Linked before none join t limit (k + 1) (set starts k n)) (sym a) (linked_more k starts x room h p))

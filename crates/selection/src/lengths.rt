@@ -18,6 +18,7 @@ pub(crate) fn running_costs(task: &Task) -> [u32; 65]
     costs
 }
 
+// An end is a plain number beside a task, so that it is a block of the task is asked by each method.
 impl Limited<'_> {
     // The length of the stretch from one block to another, by their indices.
     pub(crate) fn length(&self, start: usize, end: usize) -> u32

@@ -93,14 +93,9 @@ impl Limited<'_> {
         let mut value = Some(M::none());
         // Each end is a number that is asked about, and not only the place of an item.
         for end in 0..self.task.block_count() {
-            // As `if let` and `map`, this is not covered by the borrow checker's part of the proof.
-            value = match self.advance(&mut heap, value, end) {
-                Some(picked) => {
-                    starts[end] = picked.start;
-                    Some(picked.value)
-                }
-                None => None,
-            };
+            let picked = self.advance(&mut heap, value, end);
+            starts[end] = picked.map_or(0, |candidate| candidate.start);
+            value = picked.map(|candidate| candidate.value);
         }
         Links { starts, value }
     }

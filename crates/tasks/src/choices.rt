@@ -7,7 +7,6 @@ ghost use Rattle.tasks.specs.Under.{under, ListedUnder, StretchesUnder};
 use crate::model::Task;
 use crate::refusals::Refusal;
 use std::alloc::{AllocError, Global};
-use std::fmt;
 
 // Whether a word chooses the point at an index.
 pub fn is_chosen(word: u64, index: usize) -> bool
@@ -81,10 +80,11 @@ impl Task {
         ensures { ListedUnder self.now word result }
     {
         self.admit(word)?;
-        let numbers = chosen_below(heap, word, self.points.len() as u32)?;
-        Ok(numbers)
+        Ok(chosen_below(heap, word, self.points.len() as u32)?)
     }
 }
+
+// A task has 63 points at most, so their counts and indices fit a `u32`; std has no `From` between it and `usize`, and `as` is proved to keep them.
 
 // The numbers of the first `count` points that a word chooses, rising.
 fn chosen_below(heap: Global, word: u64, count: u32) -> Result<Vec<u32>, AllocError>
@@ -103,20 +103,6 @@ pub struct Stretch {
     pub first: u32,
     pub last: u32,
     pub length: u32,
-}
-
-impl fmt::Display for Stretch {
-    fn fmt<W: fmt::Write>(&self, f: &mut fmt::Formatter<W>) -> fmt::Result {
-        if self.first == self.last {
-            write!(f, "block {}: {} ticks", self.first, self.length)
-        } else {
-            write!(
-                f,
-                "blocks {} to {}: {} ticks",
-                self.first, self.last, self.length
-            )
-        }
-    }
 }
 
 impl Task {

@@ -17,7 +17,7 @@ pub enum Refusal {
     NoMemory,
 }
 
-// Written by hand, as the clauses of callers read what `?` makes of it.
+// By hand: `NoMemory` holds nothing, and `from_gives` tells the clauses of callers what `?` makes of it.
 impl From<AllocError> for Refusal {
     ghost from_gives = { λ _ r. r ≡ NoMemory };
 

@@ -17,6 +17,7 @@ impl Question<'_> {
     fn least<M: Measure>(&self) -> (Option<M>, u32) {
         let mut best: Option<M> = None;
         let mut words = 0u32;
+        // A word is a number, and no item of the task.
         for word in 0..512u64 {
             let (Ok(longest), Ok(value)) = (self.task.longest(word), measure::<M>(self.task, word))
             else {
@@ -26,10 +27,7 @@ impl Question<'_> {
             if longest > self.limit.unwrap_or(u32::MAX) {
                 continue;
             }
-            best = match best {
-                Some(b) if b <= value => Some(b),
-                _ => Some(value),
-            };
+            best = Some(best.map_or(value, |least| least.min(value)));
         }
         (best, words)
     }
@@ -67,12 +65,9 @@ impl Tally {
         let (best, words) = question.least::<M>();
         self.asked = self.asked.saturating_add(1);
         self.choices = self.choices.saturating_add(words);
-        if best.is_some() {
-            self.answered = self.answered.saturating_add(1);
-        }
-        if !question.agrees(places, best) {
-            self.apart = self.apart.saturating_add(1);
-        }
+        self.answered = self.answered.saturating_add(u32::from(best.is_some()));
+        let apart = !question.agrees(places, best);
+        self.apart = self.apart.saturating_add(u32::from(apart));
     }
 }
 

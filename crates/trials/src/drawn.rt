@@ -20,9 +20,11 @@ pub(crate) fn task(random: &mut Random, heap: Global) -> Result<Task, Refusal> {
     let count = 1 + random.below(9);
     let mut blocks = Vec::new(heap);
     let mut points = Vec::new(heap);
+    // The blocks are counted: each is drawn when its turn comes.
     for i in 0..count {
         if i > 0 {
             let ticks = random.below(6);
+            // std has no `From<u32>` for `u16`.
             let charge = random.below(8) as u16;
             points.push(Point::new(ticks, charge)?)?;
         }

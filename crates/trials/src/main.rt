@@ -26,6 +26,7 @@ fn compare_all(heap: Global) -> Result<(Tally, Tally), Refusal> {
     let mut charge = Tally::default();
     let mut ticks_places = [Candidate::<Ticks>::default(); 65];
     let mut charge_places = [Candidate::<TicksCharge>::default(); 65];
+    // Tasks and limits are counted: each is drawn when its turn comes.
     for _ in 0..3000u32 {
         let task = drawn::task(&mut random, heap)?;
         for _ in 0..4u32 {

@@ -53,10 +53,6 @@ task_is c = get_or_read c.args.question.tasks.now c.in-Some.next.task c.index-qu
 cost_is : (c : After-replace_top) → c.from-demand.result ≡ (task_of c.args.question.tasks.now c.in-Some.next).cost
 cost_is c = let same = ap (λ (y : Timing). y.cost) (task_is c) in search rules
 
-pub loop-best-smaller : goal.loop-best-smaller
-loop-best-smaller c =
-    omega (arith, c.loop-best.invariant.small, cost_is c, (task_of c.args.question.tasks.now c.in-Some.next).work.0)
-
 pub loop-best-preserved : goal.loop-best-preserved
 loop-best-preserved c =
     let ts = c.args.question.tasks.now in

@@ -5,8 +5,7 @@ use Rattle.std.proofs.lemmas.List.Elements.{Contains-append_right}
 use Rattle.std.proofs.ByRecursion.{All-weaker}
 use Rattle.heap.specs.Held.{held}
 use Rattle.heap.specs.Orders.{before_by}
-use Rattle.selection.specs.Candidates.{sooner}
-use Rattle.selection.proofs.Sooner.{sooner_is}
+use Rattle.selection.specs.Candidates.{sooner, sooner_is}
 use Rattle.selection.specs.Linked.{reaches}
 use Rattle.selection.proofs.Items.{Contains-cons_cases}
 use Rattle.selection.proofs.limited.Limited.in_reach.Goals as goal

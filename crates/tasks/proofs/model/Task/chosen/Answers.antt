@@ -10,5 +10,5 @@ returns c =
     let t = c.args.self.now in
     let count : c.len.result ≡ point_count t = c.len.ensures in (
       was_admitted t c.args.word (sym c.in_ok-admit.was ∙ c.admit.ensures),
-      c.in_ok-numbers.ensures ∙ rising_filter (told c.args.word) c.len.result ∙ ap (rising (told c.args.word)) count,
+      c.in_ok-chosen_below.ensures ∙ rising_filter (told c.args.word) c.len.result ∙ ap (rising (told c.args.word)) count,
     )
