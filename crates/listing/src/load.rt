@@ -26,42 +26,65 @@ fn strayed(at: usize) -> LoadFault {
     LoadFault::Cost(CostFault::Read(ReadFault::NotAllowed(at)))
 }
 
-// The blocks and points of a task, from the place after its command.
-fn load_parts(
+// What loading needs: where memory is had, the listing's bytes, and what each routine costs, by its code.
+#[derive(Clone, Copy)]
+struct Loader<'a> {
     heap: Global,
-    bytes: &[u8],
-    costs: &[u32; 256],
-    place: usize,
-) -> Result<Parts, LoadFault>
-    ensures { (b : Blocks) (q : ℕ) → blocks_from bytes.now (suc (length bytes.now)) 0 place ≡ Ok (b, q) → Priced (cost_of_code costs.now) b → BodyTold (cost_of_code costs.now) b result }
-{
-    let mut records = Vec::new(heap);
-    let mut points = Vec::new(heap);
-    let mut reader = Reader { bytes, at: place };
-    'steps: loop {
-        let head = next_block(&mut reader).ok_or(strayed(place))?;
-        records.push(Block {
-            cost: costs[usize::from(head.code)],
-        })?;
-        let Some((ticks, charge)) = next_point(&mut reader) else {
-            return Ok(Parts {
-                blocks: records,
-                points,
-            });
-        };
-        let point = Point::new(ticks, charge).map_err(|_| strayed(place))?;
-        points.push(point)?;
-    }
+    bytes: &'a [u8],
+    costs: &'a [u32; 256],
 }
 
-// The task at an offset.
-fn load_task(heap: Global, bytes: &[u8], costs: &[u32; 256], at: usize) -> Result<Task, LoadFault>
-    ensures { (t : TreeTask) → t.at ≡ at → TaskRead bytes.now t → Priced (cost_of_code costs.now) t.blocks → TaskTold (cost_of_code costs.now) t result }
-{
-    let mut reader = Reader { bytes, at };
-    let clock = next_task(&mut reader).ok_or(strayed(at))?;
-    let Parts { blocks, points } = load_parts(heap, bytes, costs, reader.at)?;
-    Task::new(clock.code, clock.period, clock.deadline, blocks, points).map_err(|_| strayed(at))
+impl Loader<'_> {
+    // The blocks and points of a task, from the place after its command.
+    fn parts(&self, place: usize) -> Result<Parts, LoadFault>
+        ensures { (b : Blocks) (q : ℕ) → blocks_from self.now.bytes.now (suc (length self.now.bytes.now)) 0 place ≡ Ok (b, q) → Priced (cost_of_code self.now.costs.now) b → BodyTold (cost_of_code self.now.costs.now) b result }
+    {
+        let mut records = Vec::new(self.heap);
+        let mut points = Vec::new(self.heap);
+        let mut reader = Reader {
+            bytes: self.bytes,
+            at: place,
+        };
+        'steps: loop {
+            let head = next_block(&mut reader).ok_or(strayed(place))?;
+            records.push(Block {
+                cost: self.costs[usize::from(head.code)],
+            })?;
+            let Some((ticks, charge)) = next_point(&mut reader) else {
+                return Ok(Parts {
+                    blocks: records,
+                    points,
+                });
+            };
+            let point = Point::new(ticks, charge).map_err(|_| strayed(place))?;
+            points.push(point)?;
+        }
+    }
+
+    // The task at an offset.
+    fn task(&self, at: usize) -> Result<Task, LoadFault>
+        ensures { (t : TreeTask) → t.at ≡ at → TaskRead self.now.bytes.now t → Priced (cost_of_code self.now.costs.now) t.blocks → TaskTold (cost_of_code self.now.costs.now) t result }
+    {
+        let mut reader = Reader {
+            bytes: self.bytes,
+            at,
+        };
+        let clock = next_task(&mut reader).ok_or(strayed(at))?;
+        let Parts { blocks, points } = self.parts(reader.at)?;
+        Task::new(clock.code, clock.period, clock.deadline, blocks, points).map_err(|_| strayed(at))
+    }
+
+    // All tasks, in the listing's order.
+    fn tasks(&self, heads: &Heads) -> Result<Vec<Task>, LoadFault>
+        ensures { (ts : List TreeTask) → heads.now ≡ map task_head ts → AllByRecursion (TaskRead self.now.bytes.now) ts → AllByRecursion (λ (t : TreeTask). Priced (cost_of_code self.now.costs.now) t.blocks) ts → TasksTold (cost_of_code self.now.costs.now) ts result }
+    {
+        let mut tasks = Vec::new(self.heap);
+        for head in heads.as_slice() {
+            let task = self.task(head.at)?;
+            tasks.push(task)?;
+        }
+        Ok(tasks)
+    }
 }
 
 // The codes of routines that cost nothing.
@@ -69,23 +92,6 @@ fn free_codes(costs: &[u32; 256]) -> Codes
     ensures { RowSays result (λ c. nat_eq (cost_of_code costs.now c) 0) }
 {
     Codes::those(|code| costs[usize::from(code)] == 0)
-}
-
-// All tasks, in the listing's order.
-fn load_tasks(
-    heap: Global,
-    bytes: &[u8],
-    costs: &[u32; 256],
-    tasks: &Heads,
-) -> Result<Vec<Task>, LoadFault>
-    ensures { (ts : List TreeTask) → tasks.now ≡ map task_head ts → AllByRecursion (TaskRead bytes.now) ts → AllByRecursion (λ (t : TreeTask). Priced (cost_of_code costs.now) t.blocks) ts → TasksTold (cost_of_code costs.now) ts result }
-{
-    let mut loaded = Vec::new(heap);
-    for head in tasks.as_slice() {
-        let task = load_task(heap, bytes, costs, head.at)?;
-        loaded.push(task)?;
-    }
-    Ok(loaded)
 }
 
 // Loads a listing: its tasks in order, each block at its routine's cost; or the first fault, or want of memory.
@@ -102,5 +108,10 @@ pub fn load(heap: Global, bytes: &[u8]) -> Result<Vec<Task>, LoadFault>
             task: task.code,
         });
     }
-    load_tasks(heap, bytes, &by_code, &outline.tasks)
+    let loader = Loader {
+        heap,
+        bytes,
+        costs: &by_code,
+    };
+    loader.tasks(&outline.tasks)
 }

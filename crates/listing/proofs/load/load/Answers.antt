@@ -17,9 +17,9 @@ returns-in-Some c = record {
 pub returns : goal.returns
 returns c =
     let x : Costed c.args.bytes.now c.in_ok-outline.field-0 = costed c.args.bytes.now c.in_ok-outline.field-0 c.in_ok-outline.ensures.told in
-    let t = c.load_tasks.ensures x.it.tasks x.tasks_are (tasks_read c.args.bytes.now c.in_ok-outline.field-0 x) (tasks_priced c.args.bytes.now c.in_ok-outline.field-0 x c.free_codes-free.result c.free_codes-free.ensures c.in_default.ensures) in
+    let t = c.tasks.ensures x.it.tasks x.tasks_are (tasks_read c.args.bytes.now c.in_ok-outline.field-0 x) (tasks_priced c.args.bytes.now c.in_ok-outline.field-0 x c.free_codes-free.result c.free_codes-free.ensures c.in_default.ensures) in
     record {
-      told = finish c.args.bytes.now c.in_ok-outline.field-0 x c.free_codes-free.result c.free_codes-free.ensures c.in_default.ensures c.load_tasks.result (λ i. (c.type_inv.bytes i).fits) c.in_ok-outline.ensures.cycles t;
-      places = no_place c.args.bytes.now _ _ c.load_tasks.result t;
-      only = only_loaded c.args.bytes.now c.in_ok-outline.field-0 c.in_ok-outline.ensures.cycles c.in_ok-outline.ensures.only c.load_tasks.result;
+      told = finish c.args.bytes.now c.in_ok-outline.field-0 x c.free_codes-free.result c.free_codes-free.ensures c.in_default.ensures c.tasks.result (λ i. (c.type_inv.bytes i).fits) c.in_ok-outline.ensures.cycles t;
+      places = no_place c.args.bytes.now _ _ c.tasks.result t;
+      only = only_loaded c.args.bytes.now c.in_ok-outline.field-0 c.in_ok-outline.ensures.cycles c.in_ok-outline.ensures.only c.tasks.result;
     }

@@ -7,22 +7,22 @@ use Rattle.tasks.specs.declared.points.Point.{Point}
 use Rattle.listing.specs.declared.parts.Clock.{Clock}
 use Rattle.listing.proofs.Loaded.{blocks_here, clock_is, clock_fits_lem}
 use Rattle.listing.proofs.Still.{is_still}
-use Rattle.listing.proofs.load.load_task.Goals as goal
+use Rattle.listing.proofs.load.Loader.task.Goals as goal
 
 pub returns-in_err-blocks : goal.returns-in_err-blocks
 returns-in_err-blocks c t e r p =
     let f = err_from_is_err_and c.from_residual-in_err-blocks.result c.from_residual-in_err-blocks.ensures.1 in
-    rw (f.1, f.2) (c.in_err-blocks.ensures t.blocks r.end (blocks_here c.args.bytes.now t c.args.at e r c.next_task.new.reader.at c.next_task.ensures.moved) p)
+    rw (f.1, f.2) (c.in_err-blocks.ensures t.blocks r.end (blocks_here c.args.self.now.bytes.now t c.args.at e r c.next_task.new.reader.at c.next_task.ensures.moved) p)
 
 pub returns : goal.returns
 returns c t e r p =
-    let m = c.in_ok-blocks.ensures t.blocks r.end (blocks_here c.args.bytes.now t c.args.at e r c.next_task.new.reader.at c.next_task.ensures.moved) p in
+    let m = c.in_ok-blocks.ensures t.blocks r.end (blocks_here c.args.self.now.bytes.now t c.args.at e r c.next_task.new.reader.at c.next_task.ensures.moved) p in
     let told = sym c.in_ok-clock.ensures.ok_part ∙ c.next_task.ensures.told in
-    let k = clock_is c.args.bytes.now t c.args.at e r c.in_ok-clock.clock told in
+    let k = clock_is c.args.self.now.bytes.now t c.args.at e r c.in_ok-clock.clock told in
     let bl = c.in_ok-blocks.field-0.blocks in
     let pl = c.in_ok-blocks.field-0.points in
     let fits : body_fits (vec_items bl) (vec_len bl) (vec_len pl) ≡ true = (λ i. body_fits (vec_items bl) (bl.ok.0 i) (pl.ok.0 i)) ∙ m.fits in
-    let x = is_still _ _ _ _ (c.new.ensures.test ∙ and_from _ _ (clock_fits_lem c.args.bytes.now t c.args.at e r c.in_ok-clock.clock told) fits) c.new.ensures.made c.map_err.ensures.cases in
+    let x = is_still _ _ _ _ (c.new.ensures.test ∙ and_from _ _ (clock_fits_lem c.args.self.now.bytes.now t c.args.at e r c.in_ok-clock.clock told) fits) c.new.ensures.made c.map_err.ensures.cases in
     rw x.1
     (record {
       code = x.2.0 ∙ ap (λ (y : Clock). y.code) k;

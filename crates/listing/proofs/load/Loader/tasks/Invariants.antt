@@ -5,7 +5,7 @@ use Rattle.reading.specs.Listings.{task_head}
 use Rattle.listing.specs.Loading.{Priced, Are}
 use Rattle.reading.specs.Runs.{cost_of_code}
 use Rattle.reading.specs.Trees.{Task}
-use Rattle.listing.proofs.load.load_tasks.Given as goal
+use Rattle.listing.proofs.load.Loader.tasks.Given as goal
 
 abbrev pub invariant-loop-head : goal.invariant-loop-head
-invariant-loop-head l = (ts : List Task) → l.tasks ≡ map task_head ts → AllByRecursion (TaskRead l.bytes) ts → AllByRecursion (λ (t : Task). Priced (cost_of_code l.costs) t.blocks) ts → Are (cost_of_code l.costs) (vec_items l.loaded) (take l.head-index ts)
+invariant-loop-head l = (ts : List Task) → l.heads ≡ map task_head ts → AllByRecursion (TaskRead l.self.bytes.now) ts → AllByRecursion (λ (t : Task). Priced (cost_of_code l.self.costs.now) t.blocks) ts → Are (cost_of_code l.self.costs.now) (vec_items l.tasks) (take l.head-index ts)
