@@ -285,23 +285,6 @@ module _ (of : ℕ → ℕ) (d : ℕ) (bs : List ℕ) (at place : ℕ) (c : Comm
         let e = turns_is u.is ∙ ap (by_last _ _ _ _ _) (sym u.last_is ∙ h) in
         item_ok of _ _ _ _ _ (ap (price of) e) (pays ∙ cap_product k r.cost (run_cost of it.run) u.cost_is) u.place_is
 
--- a command that ends no run
-pub no_end : (c : Command) → (c ≡ Or → ⊥) → (c ≡ EndEither → ⊥) → (c ≡ EndRepeat → ⊥) → (c ≡ EndRoutine → ⊥) → false ≡ ends c
-no_end (Routine n) h i j k = refl
-no_end (Work n) h i j k = refl
-no_end (Call n) h i j k = refl
-no_end Either h i j k = refl
-no_end Or h i j k = absurd (h refl)
-no_end EndEither h i j k = absurd (i refl)
-no_end (Repeat n) h i j k = refl
-no_end EndRepeat h i j k = absurd (j refl)
-no_end EndRoutine h i j k = absurd (k refl)
-no_end (Task n m p) h i j k = refl
-no_end (Block n) h i j k = refl
-no_end (Point t q) h i j k = refl
-no_end EndTask h i j k = refl
-no_end Sheet h i j k = refl
-
 -- the same bytes, the same place, the same command
 pub item_there : (of : ℕ → ℕ) (d : ℕ) (b b' : List ℕ) (at : ℕ) (c : Command) (p p' q : ℕ) (r : Result ℕ ReadFault) → b ≡ b' → p ≡ p' → ItemTold of r q (item_at d b at c p) → ItemTold of r q (item_at d b' at c p')
 item_there of d b b' at c p p' q r e f t = subst (λ x. ItemTold of r q (item_at d x at c p')) e (subst (λ x. ItemTold of r q (item_at d b at c x)) f t)

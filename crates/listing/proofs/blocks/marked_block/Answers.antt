@@ -1,12 +1,6 @@
 use Rattle.std.proofs.Common.{sym, refl, ◌∙◌}
-use Rattle.listing.proofs.MarkedTasks.{tasks_past, block_found, block_none}
+use Rattle.listing.proofs.MarkedTasks.{block_found, block_none}
 use Rattle.listing.proofs.blocks.marked_block.Goals as goal
-
-pub loop-task-init : goal.loop-task-init
-loop-task-init c ts e all = refl
-
-pub returns : goal.returns
-returns c ts e all = sym (tasks_past c.args.bytes.now ts _ (c.as_slice-task-items.ensures.is ∙ e) all c.loop-task.task-index c.args.marks.now c.loop-task-test.false) ∙ c.loop-task.invariant ts e all
 
 pub returns-in-Some : goal.returns-in-Some
 returns-in-Some c ts e all =

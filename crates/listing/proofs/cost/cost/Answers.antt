@@ -4,10 +4,10 @@ use Rattle.faults.specs.declared.fault.CostFault.TheVariants.{Unknown, Cycle, To
 use Rattle.listing.proofs.Costed.{outlined, read_fault, call_told, block_told, cycle_told, dear_told, all_told, both}
 use Rattle.listing.proofs.cost.cost.Goals as goal
 
-pub returns-in_err-outline : goal.returns-in_err-outline
-returns-in_err-outline c =
+pub returns-in_err-outline-clause-told : goal.returns-in_err-outline-clause-told
+returns-in_err-outline-clause-told c =
     let p = err_from_is_err_and c.from_residual.result c.from_residual.ensures.1 in
-    rw (p.1, p.2) (record { told = read_fault _ _ c.in_err-outline.ensures.told; cycles = tt; places = tt; only = tt })
+    rw (p.1, p.2) (read_fault _ _ c.in_err-outline.ensures.told)
 
 pub returns-in_err-calls : goal.returns-in_err-calls
 returns-in_err-calls c =

@@ -1,5 +1,5 @@
-use Rattle.std.proofs.Common.{length, ap, subst, arith}
-use Rattle.listing.specs.Cycles.{entry, through, closed, code_at, Tabled}
+use Rattle.std.proofs.Common.{ap, subst, arith}
+use Rattle.listing.specs.Cycles.{entry, through, code_at, Tabled}
 use Rattle.listing.proofs.Closed.{start_closed, pass_closed}
 use Rattle.listing.proofs.cycles.reached.Goals as goal
 
@@ -11,8 +11,3 @@ loop-k-preserved c =
     let s = c.as_slice-head-items.ensures in
     let code = ap (λ hs. code_at hs c.loop-k.k) s.is in
     pass_closed _ c.pass-rows.result _ _ _ (omega (arith, c.loop-k-test.true, s.few)) (omega (arith, code, c.pass-rows.ensures.small)) c.loop-k.invariant (subst (λ n. Tabled c.pass-rows.result (through (entry c.loop-k.rows) c.loop-k.k n)) code c.pass-rows.ensures.told)
-
-pub returns : goal.returns
-returns c =
-    let s = c.as_slice-head-items.ensures in
-    subst (λ n. Tabled c.loop-k.rows (closed (entry c.args.calls.now) (code_at c.args.routines.now) n)) (omega (arith, ap length s.is, c.loop-k-test.false, c.loop-k.auto.k-end)) c.loop-k.invariant

@@ -2,10 +2,10 @@ use Rattle.std.proofs.lemmas.Result.{err_from_is_err_and}
 use Rattle.listing.proofs.Finished.{Costed, costed, cost_fault, free_told, free_place, no_place, only_loaded, tasks_read, tasks_priced, finish}
 use Rattle.listing.proofs.load.load.Goals as goal
 
-pub returns-in_err-outline : goal.returns-in_err-outline
-returns-in_err-outline c =
+pub returns-in_err-outline-clause-told : goal.returns-in_err-outline-clause-told
+returns-in_err-outline-clause-told c =
     let p = err_from_is_err_and c.from_residual.result c.from_residual.ensures.1 in
-    rw (p.1, p.2) (record { told = cost_fault _ _ c.in_err-outline.ensures.told; places = c.in_err-outline.ensures.places; only = tt })
+    rw (p.1, p.2) (cost_fault _ _ c.in_err-outline.ensures.told)
 
 pub returns-in-Some : goal.returns-in-Some
 returns-in-Some c = record {

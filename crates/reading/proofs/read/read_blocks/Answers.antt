@@ -1,15 +1,12 @@
-use Rattle.std.proofs.Common.{◌<◌, ◌≤◌, length, Ok, Err, sym, refl, ap, ◌∙◌, arith, rules}
+use Rattle.std.proofs.Common.{◌<◌, ◌≤◌, length, Ok, Err, sym, ap, ◌∙◌, arith, rules}
 use Rattle.std.proofs.lemmas.Result.{err_from_is_err_and}
 use Rattle.faults.specs.declared.fault.ReadFault.TheVariants.{Open}
 use Rattle.commands.specs.declared.table.Context.TheVariants.{BlockDue, AfterBlock}
 use Rattle.commands.specs.Commands.{answer, after}
 use Rattle.commands.proofs.Decoded.{read_there, read_as}
 use Rattle.reading.proofs.Turns.{ok_or_err}
-use Rattle.reading.proofs.Blocked.{first_block, block_open, block_fault, not_a_block, block_many, follower_open, follower_fault, not_a_follower, task_end, point_then}
+use Rattle.reading.proofs.Blocked.{block_open, block_fault, not_a_block, block_many, follower_open, follower_fault, not_a_follower, task_end, point_then}
 use Rattle.reading.proofs.read.read_blocks.Goals as goal
-
-pub turns-init : goal.turns-init
-turns-init c = (refl, omega arith, first_block _ _)
 
 pub returns-in_err-next-clause-told : goal.returns-in_err-next-clause-told
 returns-in_err-next-clause-told c =

@@ -4,7 +4,7 @@ use Rattle.commands.specs.declared.table.Context.TheVariants.{Top}
 use Rattle.commands.specs.Commands.{answer, after}
 use Rattle.commands.proofs.Decoded.{stays, here, read_there, read_as}
 use Rattle.reading.proofs.Turns.{told_there}
-use Rattle.reading.proofs.Gathered.{gathered_as, first_routine, no_more, past_routines, routine_fault, routine_refused, body_fault, body_open, body_closed, admit_room}
+use Rattle.reading.proofs.Gathered.{gathered_as, first_routine, no_more, past_routines, routine_fault, routine_refused, body_fault, body_open, body_closed}
 use Rattle.reading.proofs.read.read_routines.Goals as goal
 
 pub routines-init : goal.routines-init
@@ -43,9 +43,6 @@ returns-in_default-last-clause-told c =
     let e = read_as _ _ _ _ _ _ (read_there _ _ c.args.reader.now.bytes.now _ _ _ _ n.told bs c.in-Some.is) c.in-Routine.is in
     let on = n.moved ∙ ap (λ b. after Top b c.routines.reader.at) bs in
     sym (body_open _ _ _ _ c.routines.invariant.1 _ _ e c.in_ok-admit.ensures _ _ _ (told_there _ _ _ _ _ _ _ _ _ (n.same ∙ bs) on c.in_ok-ran.ensures.told) c.in_default-last.not-EndRoutine)
-
-pub add-requires : goal.add-requires
-add-requires c = admit_room _ _ _ c.in_ok-admit.ensures
 
 pub routines-preserved : goal.routines-preserved
 routines-preserved c =

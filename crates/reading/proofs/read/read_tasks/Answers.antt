@@ -3,7 +3,7 @@ use Rattle.std.proofs.lemmas.Result.{err_from_is_err_and}
 use Rattle.commands.specs.declared.table.Context.TheVariants.{Tasks}
 use Rattle.commands.specs.Commands.{answer, after}
 use Rattle.commands.proofs.Decoded.{stays, read_there, read_as}
-use Rattle.reading.proofs.Gathered.{tasking_as, first_task, no_more_tasks, not_a_task, task_fault, task_refused, task_blocks_fault, task_done, blocks_there, admit_room}
+use Rattle.reading.proofs.Gathered.{tasking_as, first_task, no_more_tasks, not_a_task, task_fault, task_refused, task_blocks_fault, task_done, blocks_there}
 use Rattle.reading.proofs.read.read_tasks.Goals as goal
 
 pub tasks-init : goal.tasks-init
@@ -34,9 +34,6 @@ returns-in_err-read_blocks-clause-told c =
     let e = read_as _ _ _ _ _ _ (read_there _ _ c.args.reader.now.bytes.now _ _ _ _ n.told bs c.in-Some.is) c.in-Task.is in
     let on = n.moved ∙ ap (λ b. after Tasks b c.tasks.reader.at) bs in
     rw (p.1, p.2) (sym (task_blocks_fault _ _ _ _ c.tasks.invariant.1 _ _ _ _ e c.in_ok-admit.ensures _ (blocks_there _ _ _ _ _ (n.same ∙ bs) on c.in_err-read_blocks.ensures.told)))
-
-pub add-requires : goal.add-requires
-add-requires c = admit_room _ _ _ c.in_ok-admit.ensures
 
 pub tasks-preserved : goal.tasks-preserved
 tasks-preserved c =

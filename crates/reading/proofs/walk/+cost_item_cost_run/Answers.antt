@@ -7,8 +7,8 @@ use Rattle.commands.proofs.Decoded.{read_there}
 use Rattle.reading.proofs.Turns.{ok_or_err, run_err, item_err, told_there, item_there, item_by, start, at_open, at_fault, at_end, at_item_fault, at_item, too_deep, first_arm, arm_fault, arm_last, arm_none, arm_next, turns_last}
 use Rattle.reading.proofs.walk.+cost_item_cost_run.Goals as goal
 
-pub cost_run-returns-then-depth-eq0 : goal.cost_run-returns-then-depth-eq0
-cost_run-returns-then-depth-eq0 t c = record { same = refl; told = too_deep _ _ _ _ _ _ c.if-depth-eq0.true; within = tt }
+pub cost_run-returns-then-depth-eq0-clause-told : goal.cost_run-returns-then-depth-eq0-clause-told
+cost_run-returns-then-depth-eq0-clause-told t c = too_deep _ _ _ _ _ _ c.if-depth-eq0.true
 
 pub cost_run-items-init : goal.cost_run-items-init
 cost_run-items-init t c = (refl, omega arith, omega arith, start _ _ _ _ _ (omega arith))
@@ -29,17 +29,12 @@ cost_run-returns-in_err-at-clause-told t c =
     rw (p.1, p.2)
     (run_err _ _ _ _ (at_open _ _ _ _ _ _ c.items.invariant.3 (sym (n.told ∙ ap (λ b. answer Body b c.items.reader.at) bs) ∙ ap Ok o.ok_part) ∙ ap Err (ap (λ b. Open (length b)) (sym (n.same ∙ bs)) ∙ sym (ok_or_err _ _ _ o.value))))
 
-pub cost_run-returns-then-ends_run : goal.cost_run-returns-then-ends_run
-cost_run-returns-then-ends_run t c =
+pub cost_run-returns-then-ends_run-clause-told : goal.cost_run-returns-then-ends_run-clause-told
+cost_run-returns-then-ends_run-clause-told t c =
     let n = c.in_ok-next.ensures in
     let bs = c.items.invariant.0 in
     let e = read_there _ _ c.args.reader.now.bytes.now _ _ _ _ n.told bs c.in_ok-at.ensures.ok_part in
-    let long = ap length bs in
-    record {
-      same = n.same ∙ bs;
-      told = at_end _ _ _ _ _ _ c.items.invariant.3 _ _ e (sym c.if-ends_run.ensures) _ (n.moved ∙ ap (λ b. after Body b c.items.reader.at) bs);
-      within = search (rules, long);
-    }
+    at_end _ _ _ _ _ _ c.items.invariant.3 _ _ e (sym c.if-ends_run.ensures) _ (n.moved ∙ ap (λ b. after Body b c.items.reader.at) bs)
 
 pub cost_run-returns-in_err-cost-clause-told : goal.cost_run-returns-in_err-cost-clause-told
 cost_run-returns-in_err-cost-clause-told t c =
@@ -70,17 +65,12 @@ cost_run-items-preserved t c =
 pub cost_item-arms-init : goal.cost_item-arms-init
 cost_item-arms-init t c = (refl, omega arith, omega arith, first_arm _ _ _ _ _)
 
-pub cost_item-returns-in_err-ran-in-Either : goal.cost_item-returns-in_err-ran-in-Either
-cost_item-returns-in_err-ran-in-Either t c =
+pub cost_item-returns-in_err-ran-in-Either-clause-told : goal.cost_item-returns-in_err-ran-in-Either-clause-told
+cost_item-returns-in_err-ran-in-Either-clause-told t c =
     let p = err_from_is_err_and c.from_residual-in_err-ran-in-Either.result c.from_residual-in_err-ran-in-Either.ensures.1 in
     let n = c.in_err-ran-in-Either.ensures in
     let bs = c.arms.invariant.0 in
-    rw (p.1, p.2)
-    (record {
-      same = n.same ∙ bs;
-      told = item_by _ _ _ _ _ _ _ _ _ c.in-Either.is (item_err _ _ _ _ (arm_fault _ _ _ _ _ _ _ c.arms.invariant.3 _ _ (told_there _ _ _ _ _ _ _ _ _ bs refl n.told)));
-      within = tt;
-    })
+    rw (p.1, p.2) (item_by _ _ _ _ _ _ _ _ _ c.in-Either.is (item_err _ _ _ _ (arm_fault _ _ _ _ _ _ _ c.arms.invariant.3 _ _ (told_there _ _ _ _ _ _ _ _ _ bs refl n.told))))
 
 pub cost_item-arms-preserved : goal.cost_item-arms-preserved
 cost_item-arms-preserved t c =
@@ -93,31 +83,18 @@ cost_item-arms-preserved t c =
       rw c.max-best.ensures (arm_next _ _ _ _ _ _ _ c.arms.invariant.3 _ _ (told_there _ _ _ _ _ _ _ _ _ bs refl n.told) c.in-Or.is n.within.1 (omega (arith, n.within))),
     )
 
-pub cost_item-returns-in-EndEither : goal.cost_item-returns-in-EndEither
-cost_item-returns-in-EndEither t c =
+pub cost_item-returns-in-EndEither-clause-told : goal.cost_item-returns-in-EndEither-clause-told
+cost_item-returns-in-EndEither-clause-told t c =
     let n = c.in_ok-ran-in-Either.ensures in
     let bs = c.arms.invariant.0 in
-    record {
-      same = n.same ∙ bs;
-      told = item_by _ _ _ _ _ _ _ _ _ c.in-Either.is (rw c.max-best.ensures (arm_last _ _ _ _ _ _ _ c.arms.invariant.3 _ _ (told_there _ _ _ _ _ _ _ _ _ bs refl n.told) c.in-EndEither.is));
-      within = omega (arith, n.within, c.max-best.ensures, c.arms.invariant.1, c.arms.invariant.2);
-    }
+    item_by _ _ _ _ _ _ _ _ _ c.in-Either.is (rw c.max-best.ensures (arm_last _ _ _ _ _ _ _ c.arms.invariant.3 _ _ (told_there _ _ _ _ _ _ _ _ _ bs refl n.told) c.in-EndEither.is))
 
-pub cost_item-returns-in_default-last-2 : goal.cost_item-returns-in_default-last-2
-cost_item-returns-in_default-last-2 t c =
+pub cost_item-returns-in_default-last-2-clause-told : goal.cost_item-returns-in_default-last-2-clause-told
+cost_item-returns-in_default-last-2-clause-told t c =
     let n = c.in_ok-ran-in-Either.ensures in
     let bs = c.arms.invariant.0 in
-    record {
-      same = n.same ∙ bs;
-      told = item_by _ _ _ _ _ _ _ _ _ c.in-Either.is (item_err _ _ _ _ (arm_none _ _ _ _ _ _ _ c.arms.invariant.3 _ _ (told_there _ _ _ _ _ _ _ _ _ bs refl n.told) c.in_default-last-2.not-Or c.in_default-last-2.not-EndEither));
-      within = tt;
-    }
+    item_by _ _ _ _ _ _ _ _ _ c.in-Either.is (item_err _ _ _ _ (arm_none _ _ _ _ _ _ _ c.arms.invariant.3 _ _ (told_there _ _ _ _ _ _ _ _ _ bs refl n.told) c.in_default-last-2.not-Or c.in_default-last-2.not-EndEither))
 
-pub cost_item-returns-in-EndRepeat : goal.cost_item-returns-in-EndRepeat
-cost_item-returns-in-EndRepeat t c =
-    let n = c.in_ok-ran-in-Repeat.ensures in
-    record {
-      same = n.same;
-      told = turns_last _ _ _ _ _ _ _ c.in-Repeat.is _ _ n.told _ c.in-EndRepeat.is (rw (c.from-in-EndRepeat.ensures, c.from-in-EndRepeat-2.ensures) at c.capped-in-EndRepeat.ensures);
-      within = omega (arith, n.within, c.capped-in-EndRepeat.ensures);
-    }
+pub cost_item-returns-in-EndRepeat-clause-told : goal.cost_item-returns-in-EndRepeat-clause-told
+cost_item-returns-in-EndRepeat-clause-told t c =
+    turns_last _ _ _ _ _ _ _ c.in-Repeat.is _ _ c.in_ok-ran-in-Repeat.ensures.told _ c.in-EndRepeat.is (rw (c.from-in-EndRepeat.ensures, c.from-in-EndRepeat-2.ensures) at c.capped-in-EndRepeat.ensures)

@@ -1,5 +1,4 @@
 use Rattle.std.proofs.Common.{◌≡◌, true, map, vec_items, vec_len, sym, ap, ◌∙◌}
-use Rattle.std.proofs.lemmas.Result.{err_from_is_err_and}
 use Rattle.std.proofs.lemmas.Bool.{and_from}
 use Rattle.tasks.specs.Ranges.{body_fits}
 use Rattle.tasks.specs.declared.blocks.Block.{Block}
@@ -8,11 +7,6 @@ use Rattle.listing.specs.declared.parts.Clock.{Clock}
 use Rattle.listing.proofs.Loaded.{blocks_here, clock_is, clock_fits_lem}
 use Rattle.listing.proofs.Still.{is_still}
 use Rattle.listing.proofs.load.Loader.task.Goals as goal
-
-pub returns-in_err-blocks : goal.returns-in_err-blocks
-returns-in_err-blocks c t e r p =
-    let f = err_from_is_err_and c.from_residual-in_err-blocks.result c.from_residual-in_err-blocks.ensures.1 in
-    rw (f.1, f.2) (c.in_err-blocks.ensures t.blocks r.end (blocks_here c.args.self.now.bytes.now t c.args.at e r c.next_task.new.reader.at c.next_task.ensures.moved) p)
 
 pub returns : goal.returns
 returns c t e r p =

@@ -2,7 +2,7 @@ use Rattle.std.proofs.Common.{◌+◌, take, vec_items, sym, refl, ◌∙◌, su
 use Rattle.std.proofs.lemmas.Result.{err_from_is_err_and}
 use Rattle.listing.specs.Loading.{Are}
 use Rattle.reading.specs.Runs.{cost_of_code}
-use Rattle.listing.proofs.Loaded.{all_loaded, the_task, the_read, the_priced, the_place, load_more}
+use Rattle.listing.proofs.Loaded.{the_task, the_read, the_priced, the_place, load_more}
 use Rattle.listing.proofs.load.Loader.tasks.Goals as goal
 
 pub returns-in_err-task : goal.returns-in_err-task
@@ -20,7 +20,3 @@ loop-head-preserved c ts e all p =
     let inside = c.loop-head-test.true in
     let one = c.in_ok-task.ensures (the_task c.args.self.now.bytes.now of ts _ is all p c.loop-head.head-index inside) (the_place c.args.self.now.bytes.now of ts _ is all p c.loop-head.head-index inside _ refl) (the_read c.args.self.now.bytes.now of ts _ is all p c.loop-head.head-index inside) (the_priced c.args.self.now.bytes.now of ts _ is all p c.loop-head.head-index inside) in
     subst (λ l. Are of l (take (c.loop-head.head-index + 1) ts)) (sym c.in_ok-push.ensures.items) (load_more c.args.self.now.bytes.now of ts _ is all p c.loop-head.head-index inside (vec_items c.loop-head.tasks) c.in_ok-task.task (c.loop-head.invariant ts e all p) one)
-
-pub returns : goal.returns
-returns c ts e all p =
-    all_loaded c.args.self.now.bytes.now (cost_of_code c.args.self.now.costs.now) ts _ (c.as_slice-head-items.ensures.is ∙ e) all p c.loop-head.head-index (vec_items c.loop-head.tasks) c.loop-head-test.false (c.loop-head.invariant ts e all p)
