@@ -1,6 +1,6 @@
 -- What loading one task, and then all, tells. Assumes nothing.
-use Rattle.std.proofs.Common.{◌≡◌, ℕ, suc, ◌+◌, ◌<◌, ◌≤◌, true, ◌&&◌, List, [], ◌∷◌, ◌++◌, map, length, get_or, take, Some, Ok, sym, ap, ◌∙◌, subst, arith, le-leb}
-use Rattle.std.proofs.lemmas.List.{take_more, take_all, get_or-map, length-map}
+use Rattle.std.proofs.Common.{◌≡◌, ℕ, suc, ◌+◌, ◌<◌, true, ◌&&◌, List, [], ◌∷◌, ◌++◌, map, length, get_or, take, Some, Ok, sym, ap, ◌∙◌, subst, arith, le-leb}
+use Rattle.std.proofs.lemmas.List.{take_more, get_or-map, length-map}
 use Rattle.std.proofs.ByRecursion.{All-get_or}
 use Rattle.std.specs.List.{AllByRecursion}
 use Rattle.tasks.specs.Ranges.{clock_fits}
@@ -45,9 +45,6 @@ Are-push of (y ∷ ys) [] x t a i = absurd a
 Are-push of (y ∷ ys) (u ∷ us) x t a i = (a.0, Are-push of ys us x t a.1 i)
 
 module _ (bs : List ℕ) (of : ℕ → ℕ) (ts : List Task) (hs : List Head) (heads_are : hs ≡ map task_head ts) (all : AllByRecursion (TaskRead bs) ts) (priced : AllByRecursion (λ (t : Task). Priced of t.blocks) ts) (i : ℕ) where
-  pub all_loaded : (xs : List HeldTask) → length hs ≤ i → Are of xs (take i ts) → Are of xs ts
-  all_loaded xs h a = subst (Are of xs) (take_all i ts (omega (arith, ap length heads_are ∙ length-map ts task_head))) a
-
   module _ (inside : i < length hs) where
     low : i < length ts
     low = omega (arith, ap length heads_are ∙ length-map ts task_head)

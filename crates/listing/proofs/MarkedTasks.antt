@@ -1,6 +1,6 @@
 -- Steps through the tasks: the first marked block. Assumes nothing.
-use Rattle.std.proofs.Common.{◌≡◌, ℕ, ◌+◌, ◌<◌, ◌≤◌, Bool, List, map, length, get_or, drop, Some, None, Ok, Option, sym, ap, ◌∙◌, arith}
-use Rattle.std.proofs.lemmas.List.{at_drop_more, at_drop_all, get_or-map, length-map}
+use Rattle.std.proofs.Common.{◌≡◌, ℕ, ◌+◌, ◌<◌, Bool, List, map, length, get_or, drop, Some, None, Ok, Option, sym, ap, ◌∙◌, arith}
+use Rattle.std.proofs.lemmas.List.{at_drop_more, get_or-map, length-map}
 use Rattle.std.proofs.ByRecursion.{All-get_or}
 use Rattle.std.specs.List.{AllByRecursion}
 use Rattle.reading.specs.declared.heads.Head.{Head}
@@ -15,9 +15,6 @@ pub no_task : Task
 no_task = record { code = 0; at = 0; period = 0; deadline = 0; blocks = final 0 0 }
 
 module _ (bs : List ℕ) (ts : List Task) (hs : List Head) (heads_are : hs ≡ map task_head ts) (all : AllByRecursion (TaskRead bs) ts) (i : ℕ) where
-  pub tasks_past : (marks : List Bool) → length hs ≤ i → marked_in marks (drop i ts) ≡ None
-  tasks_past marks h = at_drop_all (marked_in marks) ts i (omega (arith, ap length heads_are ∙ length-map ts task_head))
-
   module _ (inside : i < length hs) where
     low : i < length ts
     low = omega (arith, ap length heads_are ∙ length-map ts task_head)

@@ -1,7 +1,7 @@
 -- What one turn of reading routines, or tasks, keeps. Assumes nothing.
 use Rattle.std.proofs.Common.{◌≡◌, ℕ, suc, ◌+◌, ◌-◌, ◌<◌, ◌≤◌, Bool, true, false, cond, leb, List, [], ◌∷◌, ◌++◌, map, length, Some, None, Ok, Err, Result, sym, refl, ap, ◌∙◌, subst, arith, le-ltb, lt-ltb}
 use Rattle.std.proofs.lemmas.List.{append-nil, append_assoc}
-use Rattle.std.proofs.lemmas.Bool.{cond-true, cond-false, leb-false}
+use Rattle.std.proofs.lemmas.Bool.{cond-true, cond-false}
 use Rattle.faults.specs.declared.fault.ReadFault.{ReadFault}
 use Rattle.faults.specs.declared.fault.ReadFault.TheVariants.{TooLong, NotAllowed, CodeUsed, TooMany}
 use Rattle.commands.specs.declared.table.Command.{Command}
@@ -44,19 +44,16 @@ gate_err true b e g f more h = let p : f ≡ e = cc in ap Err (sym p)
 gate_err false true e g f more h = let p : f ≡ g = cc in ap Err (sym p)
 gate_err false false e g f more h = cc
 
-gate_ok : {X : Type 0} (a b : Bool) (e g : ReadFault) (more : Result X ReadFault) → ◌≡◌ {A = Admitted} (Ok tt) (cond a (Err e) (cond b (Err g) (Ok tt))) → (b ≡ false) × (cond a (Err e) (cond b (Err g) more) ≡ more)
+gate_ok : {X : Type 0} (a b : Bool) (e g : ReadFault) (more : Result X ReadFault) → ◌≡◌ {A = Admitted} (Ok tt) (cond a (Err e) (cond b (Err g) (Ok tt))) → cond a (Err e) (cond b (Err g) more) ≡ more
 gate_ok true b e g more h = cc
 gate_ok false true e g more h = cc
-gate_ok false false e g more h = (refl, refl)
+gate_ok false false e g more h = refl
 
 admit_refuses : {X : Type 0} (c at : ℕ) (hs : List Head) (f : ReadFault) (more : Result X ReadFault) → ◌≡◌ {A = Admitted} (Err f) (admit c at hs (Ok tt)) → admit c at hs more ≡ Err f
 admit_refuses c at hs f more h = gate_err (used c hs) (leb 32 (length hs)) (CodeUsed at) (TooMany at) f more h
 
 admit_accepts : {X : Type 0} (c at : ℕ) (hs : List Head) (more : Result X ReadFault) → ◌≡◌ {A = Admitted} (Ok tt) (admit c at hs (Ok tt)) → admit c at hs more ≡ more
-admit_accepts c at hs more h = (gate_ok (used c hs) (leb 32 (length hs)) (CodeUsed at) (TooMany at) more h).1
-
-pub admit_room : (c at : ℕ) (hs : List Head) → ◌≡◌ {A = Admitted} (Ok tt) (admit c at hs (Ok tt)) → length hs < 32
-admit_room c at hs h = leb-false _ _ (gate_ok {X = Unit {0}} (used c hs) (leb 32 (length hs)) (CodeUsed at) (TooMany at) (Ok tt) h).0
+admit_accepts c at hs more h = gate_ok (used c hs) (leb 32 (length hs)) (CodeUsed at) (TooMany at) more h
 
 -- a run that is not ended by 28
 not_closed : {X : Type 0} (c : Command) (t x : X) → (c ≡ command.EndRoutine → ⊥) → by_last x x x t x c ≡ x
