@@ -63,13 +63,16 @@ module _ (bs : List ℕ) (of : ℕ → ℕ) (c : ℕ) where
       (λ e. subst (λ n. FoundCost n o) (sym (cond-false _ _ _ e)) (found_cost rs all.1 o (sym (cond-false _ _ _ e) ∙ f)))
       (cases_Bool (eqb r.code c))
 
-  pub costed_code : (rs : List Routine) (hs : List Head) → hs ≡ map routine_head rs → AllByRecursion (BodyRead bs) rs → (r : Option (Bor Head)) (n : ℕ) (Gives : Bor Head → Type 0) → option_map (λ y. y.now) r ≡ find (λ (h : Head). eqb h.code c) hs → MatchOption r (n ≡ 0) Gives → ((x : Bor Head) → Gives x → (e : Ended) → run_at 9 bs x.now.at (after Top bs x.now.at) ≡ Ok e → n ≡ min (run_cost of e.run) 1000001) → n ≡ min (cost_by of rs c) 1000001
-  costed_code rs hs is all None n Gives f m gives =
-      let e : cost_by of rs c ≡ 0 = found_cost rs all None (sym (f ∙ ap (find (λ (h : Head). eqb h.code c)) is)) in
-      m ∙ ap (λ k. min k 1000001) (sym e)
-  costed_code rs hs is all (Some x) n Gives f m gives =
-      let e = found_cost rs all (Some x.now) (sym (f ∙ ap (find (λ (h : Head). eqb h.code c)) is)) in
-      gives x m e.0 e.1 ∙ ap (λ k. min k 1000001) (sym e.2)
+  module _ (rs : List Routine) (hs : List Head) (is : hs ≡ map routine_head rs) (all : AllByRecursion (BodyRead bs) rs) where
+    pub costed_none : None ≡ find (λ (h : Head). eqb h.code c) hs → 0 ≡ min (cost_by of rs c) 1000001
+    costed_none f =
+        let e : cost_by of rs c ≡ 0 = found_cost rs all None (sym (f ∙ ap (find (λ (h : Head). eqb h.code c)) is)) in
+        ap (λ k. min k 1000001) (sym e)
+
+    pub costed_code : (h : Head) (n : ℕ) → Some h ≡ find (λ (h : Head). eqb h.code c) hs → ((e : Ended) → run_at 9 bs h.at (after Top bs h.at) ≡ Ok e → n ≡ min (run_cost of e.run) 1000001) → n ≡ min (cost_by of rs c) 1000001
+    costed_code h n f gives =
+        let e = found_cost rs all (Some h) (sym (f ∙ ap (find (λ (h : Head). eqb h.code c)) is)) in
+        gives e.0 e.1 ∙ ap (λ k. min k 1000001) (sym e.2)
 
 -- a routine's code is a byte
 pub small_code : (bs : List ℕ) (r : Routine) → BodyRead bs r → r.code < 256

@@ -28,24 +28,6 @@ use reading::read::read;
 use reading::walk::cost_run;
 use std::array;
 
-// The codes that each routine calls, or the first call of a code that no routine has.
-fn call_table(bytes: &[u8], routines: &Heads) -> Result<[Codes; 32], CostFault>
-    ensures { TableTold routines.now (calls_in bytes.now routines.now) result }
-{
-    let mut rows = [Codes::none(); 32];
-    for (i, head) in routines.as_slice().iter().enumerate() {
-        let calls = Calls::of(bytes, routines, head.at);
-        if let Some(call) = calls.unknown {
-            return Err(CostFault::Unknown {
-                at: call.at,
-                code: call.code,
-            });
-        }
-        rows[i] = calls.marks;
-    }
-    Ok(rows)
-}
-
 // The first routine that reaches itself.
 fn first_cycle(rows: &[Codes; 32], routines: &Heads) -> Option<Head>
     ensures { result ≡ cycle_from (entry rows.now) 0 routines.now }
@@ -69,45 +51,76 @@ fn first_dear(costs: &[u32; 256], routines: &Heads) -> Option<Head>
         .copied()
 }
 
-// What the routine at an offset costs, at most 1,000,001, where the called ones cost what the table says.
-fn routine_cost(bytes: &[u8], costs: &[u32; 256], at: usize) -> u32
-    ensures { (e : Ended) → run_at 9 bytes.now at (after Top bytes.now at) ≡ Ok e → result ≡ min (run_cost (cost_of_code costs.now) e.run) 1000001 }
-{
-    let mut reader = Reader { bytes, at };
-    let _ = reader.next(Context::Top);
-    cost_run(&mut reader, costs, at, 9).map_or(0, |ran| ran.cost)
+// The routines of a listing: its bytes, and where the routines stand in them.
+#[derive(Clone, Copy)]
+struct Routines<'a> {
+    bytes: &'a [u8],
+    heads: &'a Heads,
 }
 
-// What the routine of a code costs, and 0 where there is none.
-fn code_cost(bytes: &[u8], routines: &Heads, costs: &[u32; 256], code: u8) -> u32
-    ensures { (rs : List Routine) → routines.now ≡ map routine_head rs → AllByRecursion (BodyRead bytes.now) rs → result ≡ min (cost_by (cost_of_code costs.now) rs code) 1000001 }
-{
-    routines
-        .as_slice()
-        .iter()
-        .find(|head| head.code == code)
-        .map_or(0, |head| routine_cost(bytes, costs, head.at))
-}
-
-// One pass: what each routine costs, by the costs of the pass before.
-fn pass_costs(bytes: &[u8], routines: &Heads, costs: &[u32; 256]) -> [u32; 256]
-    ensures { (rs : List Routine) → routines.now ≡ map routine_head rs → AllByRecursion (BodyRead bytes.now) rs → Capped result (cost_by (cost_of_code costs.now) rs) }
-{
-    array::from_fn(|code| code_cost(bytes, routines, costs, code as u8))
-}
-
-// What each routine costs after 32 passes.
-fn settled(bytes: &[u8], routines: &Heads) -> [u32; 256]
-    ensures { (rs : List Routine) → routines.now ≡ map routine_head rs → AllByRecursion (BodyRead bytes.now) rs → Capped result (cost_in rs 32) }
-{
-    let mut costs = [0u32; 256];
-    for turn in 0..32usize {
-        costs = pass_costs(bytes, routines, &costs);
+impl Routines<'_> {
+    // The codes that each routine calls, or the first call of a code that no routine has.
+    fn calls(&self) -> Result<[Codes; 32], CostFault>
+        ensures { TableTold self.now.heads.now (calls_in self.now.bytes.now self.now.heads.now) result }
+    {
+        let mut rows = [Codes::none(); 32];
+        for (i, head) in self.heads.as_slice().iter().enumerate() {
+            let calls = Calls::of(self.bytes, self.heads, head.at);
+            if let Some(call) = calls.unknown {
+                return Err(CostFault::Unknown {
+                    at: call.at,
+                    code: call.code,
+                });
+            }
+            rows[i] = calls.marks;
+        }
+        Ok(rows)
     }
-    costs
+
+    // What the routine at an offset costs, at most 1,000,001, where the called ones cost what the table says.
+    fn cost_at(&self, costs: &[u32; 256], at: usize) -> u32
+        ensures { (e : Ended) → run_at 9 self.now.bytes.now at (after Top self.now.bytes.now at) ≡ Ok e → result ≡ min (run_cost (cost_of_code costs.now) e.run) 1000001 }
+    {
+        let mut reader = Reader {
+            bytes: self.bytes,
+            at,
+        };
+        let _ = reader.next(Context::Top);
+        cost_run(&mut reader, costs, at, 9).map_or(0, |ran| ran.cost)
+    }
+
+    // What the routine of a code costs, and 0 where there is none.
+    fn cost_of(&self, costs: &[u32; 256], code: u8) -> u32
+        ensures { (rs : List Routine) → self.now.heads.now ≡ map routine_head rs → AllByRecursion (BodyRead self.now.bytes.now) rs → result ≡ min (cost_by (cost_of_code costs.now) rs code) 1000001 }
+    {
+        let heads = self.heads.as_slice();
+        let Some(head) = heads.iter().find(|head| head.code == code) else {
+            return 0;
+        };
+        self.cost_at(costs, head.at)
+    }
+
+    // One pass: what each routine costs, by the costs of the pass before.
+    fn pass(&self, costs: &[u32; 256]) -> [u32; 256]
+        ensures { (rs : List Routine) → self.now.heads.now ≡ map routine_head rs → AllByRecursion (BodyRead self.now.bytes.now) rs → Capped result (cost_by (cost_of_code costs.now) rs) }
+    {
+        array::from_fn(|code| self.cost_of(costs, code as u8))
+    }
+
+    // What each routine costs after 32 passes.
+    fn settled(&self) -> [u32; 256]
+        ensures { (rs : List Routine) → self.now.heads.now ≡ map routine_head rs → AllByRecursion (BodyRead self.now.bytes.now) rs → Capped result (cost_in rs 32) }
+    {
+        let mut costs = [0u32; 256];
+        // A plain count of passes: a fold over it would say no more.
+        for turn in 0..32usize {
+            costs = self.pass(&costs);
+        }
+        costs
+    }
 }
 
-// What costing finds: the outline of a listing, and what each routine costs, by its code.
+// What costing finds: the outline of a listing, and what each routine costs, by its code: an array, in which each code has its place.
 #[derive(Clone, Copy, Debug, PartialEq, Eq)]
 pub struct Costs {
     pub outline: Outline,
@@ -122,7 +135,11 @@ pub fn cost(bytes: &[u8]) -> Result<Costs, CostFault>
     ensures only { OnlyTold bytes.now result }
 {
     let outline = read(bytes)?;
-    let calls = call_table(bytes, &outline.routines)?;
+    let routines = Routines {
+        bytes,
+        heads: &outline.routines,
+    };
+    let calls = routines.calls()?;
     let strange = unlisted(&outline.routines);
     if let Some((_, block)) = marked_block(bytes, &outline.tasks, &strange) {
         return Err(CostFault::Unknown {
@@ -137,7 +154,7 @@ pub fn cost(bytes: &[u8]) -> Result<Costs, CostFault>
             routine: head.code,
         });
     }
-    let by_code = settled(bytes, &outline.routines);
+    let by_code = routines.settled();
     if let Some(head) = first_dear(&by_code, &outline.routines) {
         return Err(CostFault::TooDear {
             at: head.at,

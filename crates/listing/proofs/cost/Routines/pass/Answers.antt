@@ -2,7 +2,7 @@ use Rattle.std.proofs.Common.{◌≡◌, min, rules}
 use Rattle.reading.specs.Runs.{cost_of_code}
 use Rattle.listing.specs.Costing.{cost_by}
 use Rattle.listing.proofs.Made.{made}
-use Rattle.listing.proofs.cost.pass_costs.Goals as goal
+use Rattle.listing.proofs.cost.Routines.pass.Goals as goal
 
 pub returns : goal.returns
 returns c rs e all =
