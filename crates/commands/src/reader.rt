@@ -5,7 +5,7 @@ ghost use Rattle.commands.specs.Commands.{answer, after, Forth};
 use crate::table::{Command, Context, Row};
 use faults::fault::ReadFault;
 
-#[derive(Drop)]
+#[derive(Debug, PartialEq, Eq, Drop)]
 pub struct Reader<'a> {
     pub bytes: &'a [u8],
     pub at: usize,
@@ -19,7 +19,8 @@ impl<'a> Reader<'a> {
         Reader { bytes, at: 0 }
     }
 
-    // The command at the place, with its offset, where the context allows it; none at the end of the bytes.
+    // The command at the place, with its offset, where the context allows it; none at the end of the bytes. That the bytes stay as they
+    // are is a clause of its own here and at each walk that goes on from a reader: a name for the equation would say no more.
     #[tactic(auto, using(crate::proofs::Decoded::decoding), unfolding(crate::specs::Commands::answer, crate::specs::Commands::after))]
     pub fn next(&mut self, context: Context) -> Result<Option<(usize, Command)>, ReadFault>
         ensures same { self.new.bytes.now ≡ self.old.bytes.now }

@@ -28,6 +28,7 @@ pub enum ReadFault {
 }
 
 impl ReadFault {
+    // Its number in the table of refusals, which is shown; the cases are told apart by the enum.
     pub fn number(self) -> u8
         ensures { result ≡ read_number self }
     {
@@ -86,6 +87,7 @@ impl From<ReadFault> for CostFault {
 }
 
 impl CostFault {
+    // Its number in the table of refusals.
     pub fn number(self) -> u8
         ensures { result ≡ cost_number self }
     {

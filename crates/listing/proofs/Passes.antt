@@ -3,8 +3,7 @@ use Rattle.std.proofs.Common.{◌≡◌, ℕ, zero, suc, ◌+◌, ◌*◌, ◌<�
 use Rattle.std.proofs.lemmas.List.{get_or_past}
 use Rattle.std.proofs.lemmas.Bool.{cond-true, cond-false, cases_Bool, cases_eq, cases_lt}
 use Rattle.std.specs.List.{AllByRecursion, find}
-use Rattle.std.specs.Option.{MatchOption, option_map}
-use denote.Ref.{Bor}
+use Rattle.std.specs.Option.{MatchOption}
 use Rattle.reading.specs.declared.heads.Head.{Head}
 use Rattle.commands.specs.declared.table.Context.TheVariants.{Top}
 use Rattle.commands.specs.Commands.{after}

@@ -43,6 +43,7 @@ fn read_blocks(reader: &mut Reader) -> Result<(), ReadFault>
     ensures told { end_at result reader.new.at ≡ blocks_end (blocks_from reader.old.bytes.now (suc (length reader.old.bytes.now)) 0 reader.old.at) }
     ensures forth { OnOk result (reader.old.at ≤ reader.new.at) }
 {
+    // Counted by hand: the 65th block is refused at its own place, once it is read.
     let mut count = 0usize;
     'turns: loop {
         let (at, command) = reader

@@ -40,7 +40,8 @@ fn ends_run(command: Command) -> bool
     )
 }
 
-// The run at the reader's place, which the command at `opener` begins, with `depth` levels allowed.
+// The run at the reader's place, which the command at `opener` begins, with `depth` levels allowed. The costs stand by code in an array,
+// in which each of the 256 codes has its place.
 #[cycle(cost_item_cost_run)]
 pub fn cost_run(
     reader: &mut Reader,
