@@ -1,5 +1,5 @@
 -- At the places that costing tells stand the commands that are at fault. Assumes nothing.
-use Rattle.std.proofs.Common.{◌≡◌, ℕ, suc, ◌+◌, ltb, List, [], ◌∷◌, ◌++◌, map, length, Some, None, Ok, Err, Option, Result, refl, ap, ◌∙◌, subst, inl, inr, arith}
+use Rattle.std.proofs.Common.{◌≡◌, ℕ, suc, ◌+◌, ltb, List, [], ◌∷◌, ◌++◌, map, length, Some, None, Ok, Err, Option, Result, refl, ap, ◌∙◌, subst, inl, inr}
 use Rattle.std.specs.List.{AllByRecursion}
 use Rattle.faults.specs.declared.fault.CostFault.{CostFault}
 use Rattle.faults.specs.declared.fault.CostFault.TheVariants.{Unknown, Cycle, TooDear}
@@ -67,7 +67,7 @@ module _ (bs : List ℕ) where
   by_order l (Some h) c d x y z f e = let same : Unknown h.at h.code ≡ f = cc in subst (FaultStands bs) same (x h refl)
   by_order l None (Some h) d x y z f e = let same : Cycle h.at h.code ≡ f = cc in subst (FaultStands bs) same (y h refl)
   by_order l None None (Some h) x y z f e = let same : TooDear h.at h.code ≡ f = cc in subst (FaultStands bs) same (z h refl)
-  by_order l None None None x y z f e = let no : ◌≡◌ {A = ℕ} 0 1 = cc in absurd (omega arith)
+  by_order l None None None x y z f e = cc
 
   pub places_told : (l : Listing) → listing bs ≡ Ok l → (r : Result Costs CostFault) → cost_told r ≡ costs_of (costing bs) → PlaceTold bs r
   unfolding costing

@@ -130,15 +130,15 @@ written_bytes context bs c n all w =
 some_numbers : {Y : Type 0} (r : Row) (n : Numbers) (p : ℕ) → answered p (front_of_numbers r n) ≡ Ok None → Y
 some_numbers r n p e =
     ⊎_elim
-    (λ good. let f = sym (ap (answered p) (cond-true (within r n) (a-command (command_of r.kind n) (1 + width_of r)) range good)) ∙ e in let z : ◌≡◌ {A = ℕ} 0 1 = cc in absurd (omega arith))
-    (λ bad. let f = sym (ap (answered p) (cond-false (within r n) (a-command (command_of r.kind n) (1 + width_of r)) range bad)) ∙ e in let z : ◌≡◌ {A = ℕ} 0 1 = cc in absurd (omega arith))
+    (λ good. let f = sym (ap (answered p) (cond-true (within r n) (a-command (command_of r.kind n) (1 + width_of r)) range good)) ∙ e in cc)
+    (λ bad. let f = sym (ap (answered p) (cond-false (within r n) (a-command (command_of r.kind n) (1 + width_of r)) range bad)) ∙ e in cc)
     (cases_Bool (within r n))
 
 some_by : {Y : Type 0} (o : Option Row) (xs : List ℕ) (p : ℕ) → answered p (front_of_row o xs) ≡ Ok None → Y
-some_by None xs p e = let z : ◌≡◌ {A = ℕ} 0 1 = cc in absurd (omega arith)
+some_by None xs p e = cc
 some_by (Some r) xs p e =
     ⊎_elim
-    (λ cut. let f = sym (ap (answered p) (cond-true (ltb (length xs) (width_of r)) short (front_of_numbers r (numbers_of r xs)) cut)) ∙ e in let z : ◌≡◌ {A = ℕ} 0 1 = cc in absurd (omega arith))
+    (λ cut. let f = sym (ap (answered p) (cond-true (ltb (length xs) (width_of r)) short (front_of_numbers r (numbers_of r xs)) cut)) ∙ e in cc)
     (λ whole. some_numbers r (numbers_of r xs) p (sym (ap (answered p) (cond-false (ltb (length xs) (width_of r)) short (front_of_numbers r (numbers_of r xs)) whole)) ∙ e))
     (cases_Bool (ltb (length xs) (width_of r)))
 

@@ -31,84 +31,84 @@ use Rattle.reading.proofs.Codes.{codes, used_is, codes_push}
 use Rattle.reading.proofs.Bodies.{admitted, inside, routine_cmd, task_cmd, closed_cmd}
 
 work_kind : (k : Kind) (n : Numbers) (t : ℕ) → command_of k n ≡ command.Work t → Ranged k n → t ≤ 1000000
-work_kind kind.Routine n t e r = let z : ◌≡◌ {A = ℕ} 0 1 = cc in absurd (omega arith)
+work_kind kind.Routine n t e r = cc
 work_kind kind.Work n t e r = let x : n.first ≡ t = cc in omega (arith, r.first)
-work_kind kind.Call n t e r = let z : ◌≡◌ {A = ℕ} 0 1 = cc in absurd (omega arith)
-work_kind kind.Either n t e r = let z : ◌≡◌ {A = ℕ} 0 1 = cc in absurd (omega arith)
-work_kind kind.Or n t e r = let z : ◌≡◌ {A = ℕ} 0 1 = cc in absurd (omega arith)
-work_kind kind.EndEither n t e r = let z : ◌≡◌ {A = ℕ} 0 1 = cc in absurd (omega arith)
-work_kind kind.Repeat n t e r = let z : ◌≡◌ {A = ℕ} 0 1 = cc in absurd (omega arith)
-work_kind kind.EndRepeat n t e r = let z : ◌≡◌ {A = ℕ} 0 1 = cc in absurd (omega arith)
-work_kind kind.EndRoutine n t e r = let z : ◌≡◌ {A = ℕ} 0 1 = cc in absurd (omega arith)
-work_kind kind.Task n t e r = let z : ◌≡◌ {A = ℕ} 0 1 = cc in absurd (omega arith)
-work_kind kind.Block n t e r = let z : ◌≡◌ {A = ℕ} 0 1 = cc in absurd (omega arith)
-work_kind kind.Point n t e r = let z : ◌≡◌ {A = ℕ} 0 1 = cc in absurd (omega arith)
-work_kind kind.EndTask n t e r = let z : ◌≡◌ {A = ℕ} 0 1 = cc in absurd (omega arith)
-work_kind kind.Sheet n t e r = let z : ◌≡◌ {A = ℕ} 0 1 = cc in absurd (omega arith)
+work_kind kind.Call n t e r = cc
+work_kind kind.Either n t e r = cc
+work_kind kind.Or n t e r = cc
+work_kind kind.EndEither n t e r = cc
+work_kind kind.Repeat n t e r = cc
+work_kind kind.EndRepeat n t e r = cc
+work_kind kind.EndRoutine n t e r = cc
+work_kind kind.Task n t e r = cc
+work_kind kind.Block n t e r = cc
+work_kind kind.Point n t e r = cc
+work_kind kind.EndTask n t e r = cc
+work_kind kind.Sheet n t e r = cc
 
 call_kind : (k : Kind) (n : Numbers) (t : ℕ) → command_of k n ≡ command.Call t → Ranged k n → t ≤ 255
-call_kind kind.Routine n t e r = let z : ◌≡◌ {A = ℕ} 0 1 = cc in absurd (omega arith)
-call_kind kind.Work n t e r = let z : ◌≡◌ {A = ℕ} 0 1 = cc in absurd (omega arith)
+call_kind kind.Routine n t e r = cc
+call_kind kind.Work n t e r = cc
 call_kind kind.Call n t e r = let x : n.first ≡ t = cc in omega (arith, r.first)
-call_kind kind.Either n t e r = let z : ◌≡◌ {A = ℕ} 0 1 = cc in absurd (omega arith)
-call_kind kind.Or n t e r = let z : ◌≡◌ {A = ℕ} 0 1 = cc in absurd (omega arith)
-call_kind kind.EndEither n t e r = let z : ◌≡◌ {A = ℕ} 0 1 = cc in absurd (omega arith)
-call_kind kind.Repeat n t e r = let z : ◌≡◌ {A = ℕ} 0 1 = cc in absurd (omega arith)
-call_kind kind.EndRepeat n t e r = let z : ◌≡◌ {A = ℕ} 0 1 = cc in absurd (omega arith)
-call_kind kind.EndRoutine n t e r = let z : ◌≡◌ {A = ℕ} 0 1 = cc in absurd (omega arith)
-call_kind kind.Task n t e r = let z : ◌≡◌ {A = ℕ} 0 1 = cc in absurd (omega arith)
-call_kind kind.Block n t e r = let z : ◌≡◌ {A = ℕ} 0 1 = cc in absurd (omega arith)
-call_kind kind.Point n t e r = let z : ◌≡◌ {A = ℕ} 0 1 = cc in absurd (omega arith)
-call_kind kind.EndTask n t e r = let z : ◌≡◌ {A = ℕ} 0 1 = cc in absurd (omega arith)
-call_kind kind.Sheet n t e r = let z : ◌≡◌ {A = ℕ} 0 1 = cc in absurd (omega arith)
+call_kind kind.Either n t e r = cc
+call_kind kind.Or n t e r = cc
+call_kind kind.EndEither n t e r = cc
+call_kind kind.Repeat n t e r = cc
+call_kind kind.EndRepeat n t e r = cc
+call_kind kind.EndRoutine n t e r = cc
+call_kind kind.Task n t e r = cc
+call_kind kind.Block n t e r = cc
+call_kind kind.Point n t e r = cc
+call_kind kind.EndTask n t e r = cc
+call_kind kind.Sheet n t e r = cc
 
 repeat_kind : (k : Kind) (n : Numbers) (t : ℕ) → command_of k n ≡ command.Repeat t → Ranged k n → t ≤ 1000
-repeat_kind kind.Routine n t e r = let z : ◌≡◌ {A = ℕ} 0 1 = cc in absurd (omega arith)
-repeat_kind kind.Work n t e r = let z : ◌≡◌ {A = ℕ} 0 1 = cc in absurd (omega arith)
-repeat_kind kind.Call n t e r = let z : ◌≡◌ {A = ℕ} 0 1 = cc in absurd (omega arith)
-repeat_kind kind.Either n t e r = let z : ◌≡◌ {A = ℕ} 0 1 = cc in absurd (omega arith)
-repeat_kind kind.Or n t e r = let z : ◌≡◌ {A = ℕ} 0 1 = cc in absurd (omega arith)
-repeat_kind kind.EndEither n t e r = let z : ◌≡◌ {A = ℕ} 0 1 = cc in absurd (omega arith)
+repeat_kind kind.Routine n t e r = cc
+repeat_kind kind.Work n t e r = cc
+repeat_kind kind.Call n t e r = cc
+repeat_kind kind.Either n t e r = cc
+repeat_kind kind.Or n t e r = cc
+repeat_kind kind.EndEither n t e r = cc
 repeat_kind kind.Repeat n t e r = let x : n.first ≡ t = cc in omega (arith, r.first)
-repeat_kind kind.EndRepeat n t e r = let z : ◌≡◌ {A = ℕ} 0 1 = cc in absurd (omega arith)
-repeat_kind kind.EndRoutine n t e r = let z : ◌≡◌ {A = ℕ} 0 1 = cc in absurd (omega arith)
-repeat_kind kind.Task n t e r = let z : ◌≡◌ {A = ℕ} 0 1 = cc in absurd (omega arith)
-repeat_kind kind.Block n t e r = let z : ◌≡◌ {A = ℕ} 0 1 = cc in absurd (omega arith)
-repeat_kind kind.Point n t e r = let z : ◌≡◌ {A = ℕ} 0 1 = cc in absurd (omega arith)
-repeat_kind kind.EndTask n t e r = let z : ◌≡◌ {A = ℕ} 0 1 = cc in absurd (omega arith)
-repeat_kind kind.Sheet n t e r = let z : ◌≡◌ {A = ℕ} 0 1 = cc in absurd (omega arith)
+repeat_kind kind.EndRepeat n t e r = cc
+repeat_kind kind.EndRoutine n t e r = cc
+repeat_kind kind.Task n t e r = cc
+repeat_kind kind.Block n t e r = cc
+repeat_kind kind.Point n t e r = cc
+repeat_kind kind.EndTask n t e r = cc
+repeat_kind kind.Sheet n t e r = cc
 
 point_kind : (k : Kind) (n : Numbers) (t q : ℕ) → command_of k n ≡ command.Point t q → Ranged k n → (t ≤ 1000000) × (q ≤ 65535)
-point_kind kind.Routine n t q e r = let z : ◌≡◌ {A = ℕ} 0 1 = cc in absurd (omega arith)
-point_kind kind.Work n t q e r = let z : ◌≡◌ {A = ℕ} 0 1 = cc in absurd (omega arith)
-point_kind kind.Call n t q e r = let z : ◌≡◌ {A = ℕ} 0 1 = cc in absurd (omega arith)
-point_kind kind.Either n t q e r = let z : ◌≡◌ {A = ℕ} 0 1 = cc in absurd (omega arith)
-point_kind kind.Or n t q e r = let z : ◌≡◌ {A = ℕ} 0 1 = cc in absurd (omega arith)
-point_kind kind.EndEither n t q e r = let z : ◌≡◌ {A = ℕ} 0 1 = cc in absurd (omega arith)
-point_kind kind.Repeat n t q e r = let z : ◌≡◌ {A = ℕ} 0 1 = cc in absurd (omega arith)
-point_kind kind.EndRepeat n t q e r = let z : ◌≡◌ {A = ℕ} 0 1 = cc in absurd (omega arith)
-point_kind kind.EndRoutine n t q e r = let z : ◌≡◌ {A = ℕ} 0 1 = cc in absurd (omega arith)
-point_kind kind.Task n t q e r = let z : ◌≡◌ {A = ℕ} 0 1 = cc in absurd (omega arith)
-point_kind kind.Block n t q e r = let z : ◌≡◌ {A = ℕ} 0 1 = cc in absurd (omega arith)
+point_kind kind.Routine n t q e r = cc
+point_kind kind.Work n t q e r = cc
+point_kind kind.Call n t q e r = cc
+point_kind kind.Either n t q e r = cc
+point_kind kind.Or n t q e r = cc
+point_kind kind.EndEither n t q e r = cc
+point_kind kind.Repeat n t q e r = cc
+point_kind kind.EndRepeat n t q e r = cc
+point_kind kind.EndRoutine n t q e r = cc
+point_kind kind.Task n t q e r = cc
+point_kind kind.Block n t q e r = cc
 point_kind kind.Point n t q e r = let x : n.first ≡ t = cc in let y : n.second ≡ q = cc in (omega (arith, r.first), omega (arith, r.second))
-point_kind kind.EndTask n t q e r = let z : ◌≡◌ {A = ℕ} 0 1 = cc in absurd (omega arith)
-point_kind kind.Sheet n t q e r = let z : ◌≡◌ {A = ℕ} 0 1 = cc in absurd (omega arith)
+point_kind kind.EndTask n t q e r = cc
+point_kind kind.Sheet n t q e r = cc
 
 task_code : (k : Kind) (n : Numbers) (c p d : ℕ) → command_of k n ≡ command.Task c p d → Ranged k n → c ≤ 255
-task_code kind.Routine n c p d e r = let z : ◌≡◌ {A = ℕ} 0 1 = cc in absurd (omega arith)
-task_code kind.Work n c p d e r = let z : ◌≡◌ {A = ℕ} 0 1 = cc in absurd (omega arith)
-task_code kind.Call n c p d e r = let z : ◌≡◌ {A = ℕ} 0 1 = cc in absurd (omega arith)
-task_code kind.Either n c p d e r = let z : ◌≡◌ {A = ℕ} 0 1 = cc in absurd (omega arith)
-task_code kind.Or n c p d e r = let z : ◌≡◌ {A = ℕ} 0 1 = cc in absurd (omega arith)
-task_code kind.EndEither n c p d e r = let z : ◌≡◌ {A = ℕ} 0 1 = cc in absurd (omega arith)
-task_code kind.Repeat n c p d e r = let z : ◌≡◌ {A = ℕ} 0 1 = cc in absurd (omega arith)
-task_code kind.EndRepeat n c p d e r = let z : ◌≡◌ {A = ℕ} 0 1 = cc in absurd (omega arith)
-task_code kind.EndRoutine n c p d e r = let z : ◌≡◌ {A = ℕ} 0 1 = cc in absurd (omega arith)
+task_code kind.Routine n c p d e r = cc
+task_code kind.Work n c p d e r = cc
+task_code kind.Call n c p d e r = cc
+task_code kind.Either n c p d e r = cc
+task_code kind.Or n c p d e r = cc
+task_code kind.EndEither n c p d e r = cc
+task_code kind.Repeat n c p d e r = cc
+task_code kind.EndRepeat n c p d e r = cc
+task_code kind.EndRoutine n c p d e r = cc
 task_code kind.Task n c p d e r = let x : n.first ≡ c = cc in omega (arith, r.first)
-task_code kind.Block n c p d e r = let z : ◌≡◌ {A = ℕ} 0 1 = cc in absurd (omega arith)
-task_code kind.Point n c p d e r = let z : ◌≡◌ {A = ℕ} 0 1 = cc in absurd (omega arith)
-task_code kind.EndTask n c p d e r = let z : ◌≡◌ {A = ℕ} 0 1 = cc in absurd (omega arith)
-task_code kind.Sheet n c p d e r = let z : ◌≡◌ {A = ℕ} 0 1 = cc in absurd (omega arith)
+task_code kind.Block n c p d e r = cc
+task_code kind.Point n c p d e r = cc
+task_code kind.EndTask n c p d e r = cc
+task_code kind.Sheet n c p d e r = cc
 
 ranges : (context : Context) (bs : List ℕ) (p at : ℕ) (c : Command) → answer context bs p ≡ Ok (Some (at, c)) → (k : Kind) × (n : Numbers) × (command_of k n ≡ c) × Ranged k n
 ranges context bs p at c e =
@@ -279,7 +279,7 @@ module _ (bs : List ℕ) where
 
 accepted_by : (bs : List ℕ) → AllByRecursion (λ b. b < 256) bs → (o : Outline) (r : Result Listing ReadFault) → listing bs ≡ r → told (Ok o) ≡ outline_of r → Accepted bs (Ok o)
 accepted_by bs all o (Ok l) e t = let same = accepted bs all l e in (l, e, same, read_fits bs l e same)
-accepted_by bs all o (Err f) e t = let z : ◌≡◌ {A = ℕ} 0 1 = cc in absurd (omega arith)
+accepted_by bs all o (Err f) e t = cc
 
 -- what is accepted is a tree that fits
 pub accepts_tree : (bs : List ℕ) → ((i : ℕ) → get_or bs i 0 < 256) → (o : Outline) → told (Ok o) ≡ outline_of (listing bs) → Accepted bs (Ok o)
@@ -290,5 +290,4 @@ pub refuses_none : (bs : List ℕ) (f : ReadFault) → told (Err f) ≡ outline_
 refuses_none bs f t l fits same =
     let m = accepts l fits in
     let e : told (Err f) ≡ outline_of (Ok m.0) = t ∙ ap (λ x. outline_of (listing x)) same ∙ ap outline_of m.1 in
-    let z : ◌≡◌ {A = ℕ} 0 1 = cc in
-    omega arith
+    cc

@@ -1,5 +1,5 @@
 -- The tree of a run, command by command in the bytes. Assumes nothing.
-use Rattle.std.proofs.Common.{◌≡◌, ℕ, zero, suc, ◌⊎◌, List, length, Some, None, Ok, Err, Option, Result, sym, refl, ap, ◌∙◌, subst, inl, inr, ⊎_elim, arith}
+use Rattle.std.proofs.Common.{◌≡◌, ℕ, zero, suc, ◌⊎◌, List, length, Some, None, Ok, Err, Option, Result, sym, refl, ap, ◌∙◌, subst, inl, inr, ⊎_elim}
 use Rattle.std.proofs.lemmas.Bool.{cases_Bool, cond-true, cond-false}
 use Rattle.faults.specs.declared.fault.ReadFault.{ReadFault}
 use Rattle.commands.specs.declared.table.Command.{Command}
@@ -37,10 +37,10 @@ Reads bs p e = (m : ℕ) × ReadsRun bs p e.run m × Cmd bs m e.last e.place
 -- what `then` went on with
 pub went : {X Y F : Type 0} (rule : X → Result Y F) (s : Result X F) (y : Y) → then rule s ≡ Ok y → (x : X) × (s ≡ Ok x) × (rule x ≡ Ok y)
 went rule (Ok x) y e = (x, refl, e)
-went rule (Err f) y e = let z : ◌≡◌ {A = ℕ} 0 1 = cc in absurd (omega arith)
+went rule (Err f) y e = cc
 
 never : {X Y : Type 0} {f : ReadFault} {x : X} → ◌≡◌ {A = Result X ReadFault} (Err f) (Ok x) → Y
-never e = let z : ◌≡◌ {A = ℕ} 0 1 = cc in absurd (omega arith)
+never e = cc
 
 inside : {X : Type 0} {x y : X} → ◌≡◌ {A = Result X ReadFault} (Ok x) (Ok y) → x ≡ y
 inside e = cc

@@ -1,5 +1,5 @@
 -- The tree of a task's blocks, step by step in the bytes. Assumes nothing.
-use Rattle.std.proofs.Common.{◌≡◌, ℕ, suc, ◌+◌, ◌<◌, leb, ◌⊎◌, List, Some, None, Ok, Err, Option, Result, sym, refl, ap, ◌∙◌, inl, inr, ⊎_elim, arith}
+use Rattle.std.proofs.Common.{◌≡◌, ℕ, suc, ◌+◌, ◌<◌, leb, ◌⊎◌, List, Some, None, Ok, Err, Option, Result, sym, refl, ap, ◌∙◌, inl, inr, ⊎_elim}
 use Rattle.std.proofs.lemmas.Bool.{cases_Bool, cond-true, cond-false, leb-false}
 use Rattle.faults.specs.declared.fault.ReadFault.{ReadFault}
 use Rattle.commands.specs.declared.table.Command.{Command}
@@ -13,10 +13,10 @@ use Rattle.reading.specs.Steps.{block_of, point_of}
 use Rattle.reading.proofs.Spelled.{went}
 
 pub refused : {X Y : Type 0} {f : ReadFault} {x : X} → ◌≡◌ {A = Result X ReadFault} (Err f) (Ok x) → Y
-refused e = let z : ◌≡◌ {A = ℕ} 0 1 = cc in absurd (omega arith)
+refused e = cc
 
 pub nothing : {X Y : Type 0} {x : X} → ◌≡◌ {A = Option X} None (Some x) → Y
-nothing e = let z : ◌≡◌ {A = ℕ} 0 1 = cc in absurd (omega arith)
+nothing e = cc
 
 -- the command that went on: a block; a point or the end of a task
 pub block_cmd : {X : Type 0} (c : Command) (f : ℕ → Result X ReadFault) (e : ReadFault) (x : X) → by_command (λ _. Err e) (λ _ _ _. Err e) f (λ _ _. Err e) (Err e) (Err e) c ≡ Ok x → (n : ℕ) × (c ≡ command.Block n) × (f n ≡ Ok x)
