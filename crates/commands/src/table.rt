@@ -89,69 +89,64 @@ const LONG: Operand = Operand {
     top: 4_294_967_295,
 };
 
+// A row with no operands: what a row of the table does not say, it takes from here.
+const PLAIN: Row = Row {
+    byte: 0,
+    kind: Kind::Sheet,
+    first: NONE,
+    second: NONE,
+    third: NONE,
+};
+
 pub const ROWS: [Row; 17] = [
     Row {
         byte: 0x20,
         kind: Kind::Routine,
         first: CODE,
-        second: NONE,
-        third: NONE,
+        ..PLAIN
     },
     Row {
         byte: 0x21,
         kind: Kind::Work,
         first: TICKS,
-        second: NONE,
-        third: NONE,
+        ..PLAIN
     },
     Row {
         byte: 0x22,
         kind: Kind::Call,
         first: CODE,
-        second: NONE,
-        third: NONE,
+        ..PLAIN
     },
     Row {
         byte: 0x23,
         kind: Kind::Either,
-        first: NONE,
-        second: NONE,
-        third: NONE,
+        ..PLAIN
     },
     Row {
         byte: 0x24,
         kind: Kind::Or,
-        first: NONE,
-        second: NONE,
-        third: NONE,
+        ..PLAIN
     },
     Row {
         byte: 0x25,
         kind: Kind::EndEither,
-        first: NONE,
-        second: NONE,
-        third: NONE,
+        ..PLAIN
     },
     Row {
         byte: 0x26,
         kind: Kind::Repeat,
         first: TURNS,
-        second: NONE,
-        third: NONE,
+        ..PLAIN
     },
     Row {
         byte: 0x27,
         kind: Kind::EndRepeat,
-        first: NONE,
-        second: NONE,
-        third: NONE,
+        ..PLAIN
     },
     Row {
         byte: 0x28,
         kind: Kind::EndRoutine,
-        first: NONE,
-        second: NONE,
-        third: NONE,
+        ..PLAIN
     },
     Row {
         byte: 0x30,
@@ -164,50 +159,43 @@ pub const ROWS: [Row; 17] = [
         byte: 0x31,
         kind: Kind::Block,
         first: CODE,
-        second: NONE,
-        third: NONE,
+        ..PLAIN
     },
     Row {
         byte: 0x32,
         kind: Kind::Point,
         first: TICKS,
         second: WORD,
-        third: NONE,
+        ..PLAIN
     },
     Row {
         byte: 0x33,
         kind: Kind::EndTask,
-        first: NONE,
-        second: NONE,
-        third: NONE,
+        ..PLAIN
     },
     Row {
         byte: 0x4f,
         kind: Kind::Sheet,
         first: WORD,
-        second: NONE,
-        third: NONE,
+        ..PLAIN
     },
     Row {
         byte: 0x40,
         kind: Kind::Sheet,
         first: CODE,
         second: LONG,
-        third: NONE,
+        ..PLAIN
     },
     Row {
         byte: 0x41,
         kind: Kind::Sheet,
         first: CODE,
-        second: NONE,
-        third: NONE,
+        ..PLAIN
     },
     Row {
         byte: 0x42,
         kind: Kind::Sheet,
-        first: NONE,
-        second: NONE,
-        third: NONE,
+        ..PLAIN
     },
 ];
 
