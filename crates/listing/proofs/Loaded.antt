@@ -7,7 +7,7 @@ use Rattle.tasks.specs.Ranges.{clock_fits}
 use Rattle.tasks.specs.declared.model.Task.{Task as HeldTask}
 use Rattle.commands.specs.declared.table.Context.TheVariants.{Tasks}
 use Rattle.reading.specs.declared.heads.Head.{Head}
-use Rattle.listing.specs.declared.parts.Clock.{Clock}
+use Rattle.tasks.specs.declared.clock.Clock.{Clock}
 use Rattle.reading.specs.Bodies.{TaskRead}
 use Rattle.commands.specs.Commands.{answer, after}
 use Rattle.reading.specs.Heads.{head}

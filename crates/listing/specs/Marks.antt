@@ -2,7 +2,7 @@
 use Rattle.std.specs.Prelude.{ℕ, Bool, false, cond, List, [], ◌∷◌, Some, None, Ok, Err, Option, Result, slice_index_or}
 use Rattle.faults.specs.declared.fault.ReadFault.{ReadFault}
 use Rattle.commands.specs.declared.table.Command.{Command}
-use Rattle.listing.specs.declared.parts.Clock.{Clock}
+use Rattle.tasks.specs.declared.clock.Clock.{Clock}
 use Rattle.reading.specs.declared.heads.Head.{Head}
 use Rattle.reading.specs.Trees.{Task, block_heads}
 use Rattle.reading.specs.Listings.{by_command, task_head}

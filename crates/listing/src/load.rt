@@ -71,7 +71,7 @@ impl Loader<'_> {
         };
         let clock = next_task(&mut reader).ok_or(strayed(at))?;
         let Parts { blocks, points } = self.parts(reader.at)?;
-        Task::new(clock.code, clock.period, clock.deadline, blocks, points).map_err(|_| strayed(at))
+        Task::new(clock, blocks, points).map_err(|_| strayed(at))
     }
 
     // All tasks, in the listing's order.

@@ -3,7 +3,7 @@ use Rattle.std.proofs.lemmas.Bool.{and_from}
 use Rattle.tasks.specs.Ranges.{body_fits}
 use Rattle.tasks.specs.declared.blocks.Block.{Block}
 use Rattle.tasks.specs.declared.points.Point.{Point}
-use Rattle.listing.specs.declared.parts.Clock.{Clock}
+use Rattle.tasks.specs.declared.clock.Clock.{Clock}
 use Rattle.listing.proofs.Loaded.{blocks_here, clock_is, clock_fits_lem}
 use Rattle.listing.proofs.Still.{is_still}
 use Rattle.listing.proofs.load.Loader.task.Goals as goal
