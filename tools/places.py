@@ -92,7 +92,7 @@ def twins(files):
         lines = []
         for i, line in enumerate(t.split("\n"), 1):
             line = line.split("//")[0].strip()
-            if not line or re.match(r"[})\]]*[,;{]?$|(pub )?(use|ghost|mod|requires|ensures|const)\b|#|(pub )?\w+(: [\w:]+)?,$", line):
+            if not line or re.match(r"[})\]]*[,;{]?$|(pub )?(use|ghost|mod|requires|ensures|const)\b|#|(pub )?\w+(: [\w:]+)?,$|\.\.", line):
                 continue
             words = r"\b(?!(?:let|match|if|else|for|in|while|loop|return|fn|pub|self|mut|Some|None|Ok|Err|struct|enum|impl)\b)\w+"
             lines.append((i, re.sub(words, "w", line)))

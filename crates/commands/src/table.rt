@@ -343,6 +343,7 @@ impl Command {
         requires { (n.first ≤ top kind) × (n.second ≤ top_second kind) }
         ensures { result ≡ command_of kind n }
     {
+        // What is required keeps each number within its narrower type, for which std has no `From`.
         match kind {
             Kind::Routine => Command::Routine(n.first as u8),
             Kind::Work => Command::Work(n.first),

@@ -78,6 +78,7 @@ pub enum CostFault {
     TooDear { at: usize, routine: u8 },
 }
 
+// By hand, as the others below: `from_gives` tells the clauses of callers what `?` makes of it, and a derived `From` has no contract.
 impl From<ReadFault> for CostFault {
     ghost from_gives = { λ e r. r ≡ Read e };
 

@@ -72,6 +72,7 @@ pub(crate) fn first_block(bytes: &[u8], at: usize, marks: &Codes) -> Option<Head
 {
     let mut reader = Reader { bytes, at };
     let _ = reader.next(Context::Tasks);
+    // Nothing is counted: the next block stands where the reader is left.
     'steps: loop {
         let head = next_block(&mut reader)?;
         if marks.has(head.code) {

@@ -39,6 +39,7 @@ impl Codes {
         ensures says { (c : ℕ) → c < 256 → F.post test c (slice_index_or result c false) }
     {
         Codes {
+            // A place of the array is below 256; std has no `From<usize>` for `u8`.
             marks: array::from_fn(|code| test(code as u8)),
         }
     }

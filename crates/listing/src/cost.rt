@@ -104,6 +104,7 @@ impl Routines<'_> {
     fn pass(&self, costs: &[u32; 256]) -> [u32; 256]
         ensures { (rs : List Routine) → self.now.heads.now ≡ map routine_head rs → AllByRecursion (BodyRead self.now.bytes.now) rs → Capped result (cost_by (cost_of_code costs.now) rs) }
     {
+        // A place of the array is below 256; std has no `From<usize>` for `u8`.
         array::from_fn(|code| self.cost_of(costs, code as u8))
     }
 

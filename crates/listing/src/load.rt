@@ -45,6 +45,7 @@ impl Loader<'_> {
             bytes: self.bytes,
             at: place,
         };
+        // Nothing is counted: the next block stands where the reader is left.
         'steps: loop {
             let head = next_block(&mut reader).ok_or(strayed(place))?;
             records.push(Block {

@@ -28,6 +28,7 @@ fn added(total: u32, cost: u32) -> u32
 fn capped(cost: u64) -> u32
     ensures { result ≡ min cost 1000001 }
 {
+    // At most 1,000,001; std has no `From<u64>` for `u32`.
     cost.min(ABOVE) as u32
 }
 
@@ -57,6 +58,7 @@ pub fn cost_run(
         return Err(ReadFault::TooMany(opener));
     }
     let mut total = 0;
+    // Nothing is counted: an item ends where its own walk leaves the reader.
     'items: loop {
         let (at, command) = reader
             .next(Context::Body)?
@@ -98,6 +100,7 @@ fn cost_item(
         }
         Command::Either => {
             let mut best = 0;
+            // Nothing is counted: an arm ends where its own walk leaves the reader.
             'arms: loop {
                 let ran = cost_run(reader, costs, at, depth)?;
                 best = ran.cost.max(best);

@@ -47,7 +47,7 @@ impl Refusal {
         }
     }
 
-    // The place that is told with it.
+    // The place that is told with it: a table of its own, case by case, as that of the numbers.
     pub fn place(self) -> u32
         ensures { result ≡ place self }
     {

@@ -31,6 +31,7 @@ impl Timing {
         })
     }
 
+    // Its numbers, as `Task` tells those of the same names: two types, and nothing more to share.
     pub fn period(&self) -> u32
         ensures { result ≡ self.now.period }
     {
