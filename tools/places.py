@@ -85,14 +85,14 @@ def bare_types(files):
 
 
 def twins(files):
-    """Pairs of runs of six lines or more that are the same but for names, numbers and strings; imports, clauses, variants and fields' lines
-    are left out."""
+    """Pairs of runs of six lines or more that are the same but for names, numbers and strings; imports, clauses, variants and the lines of
+    a struct's fields are left out."""
     runs = {}
     for f, t in files.items():
         lines = []
         for i, line in enumerate(t.split("\n"), 1):
             line = line.split("//")[0].strip()
-            if not line or re.match(r"[})\]]*[,;{]?$|(pub )?(use|ghost|mod|requires|ensures|const)\b|#|(pub )?\w+(: [\w:]+)?,$|\.\.", line):
+            if not line or re.match(r"[})\]]*[,;{]?$|(pub )?(use|ghost|mod|requires|ensures|const)\b|#|(pub )?\w+(: [\w:]+)?,$|\.\.|\w+ \{$", line):
                 continue
             words = r"\b(?!(?:let|match|if|else|for|in|while|loop|return|fn|pub|self|mut|Some|None|Ok|Err|struct|enum|impl)\b)\w+"
             lines.append((i, re.sub(words, "w", line)))
