@@ -63,6 +63,7 @@ impl Routines<'_> {
     fn calls(&self) -> Result<[Codes; 32], CostFault>
         ensures { TableTold self.now.heads.now (calls_in self.now.bytes.now self.now.heads.now) result }
     {
+        // One row a routine, in the order of the heads: an array beside them, since costing takes no memory.
         let mut rows = [Codes::none(); 32];
         for (i, head) in self.heads.as_slice().iter().enumerate() {
             let calls = Calls::of(self.bytes, self.heads, head.at);

@@ -56,6 +56,7 @@ impl Rule for Exact {
         ensures moment { result.moment ≡ exact_moment question.entry.tasks.now question.entry.place }
         ensures greatest { FirstGreatest question.entry.tasks.now question.entry.place result.moment }
     {
+        // A slot for each of 32 tasks: a rule takes no memory.
         let mut slots = [Multiple { at: 0, task: 0 }; 32];
         let mut heap = Heap::new(&mut slots);
         let first = release(&mut heap, question);

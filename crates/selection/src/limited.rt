@@ -9,6 +9,7 @@ use tasks::model::Task;
 pub(crate) struct Limited<'a> {
     pub(crate) task: &'a Task,
     pub(crate) limit: Option<u32>,
+    // an array, since choosing takes no memory
     pub(crate) costs: [u32; 65],
     ghost running: { (k : ℕ) → k ≤ point_count task.now + 1 → slice_index costs k ≡ cost_before (cost_of_block task.now) k },
 }

@@ -16,6 +16,7 @@ use measures::measure::Measure;
 // The chosen start of the last stretch for each end, and the value of the selection for all blocks.
 #[derive(Clone, Copy)]
 pub(crate) struct Links<M> {
+    // an array, since choosing takes no memory
     pub(crate) starts: [usize; 64],
     pub(crate) value: Option<M>,
 }

@@ -9,7 +9,7 @@ pub struct Clock {
     pub deadline: u32,
 }
 
-// A period of 10 to 1,000,000 ticks, and a deadline from 1 to the period.
+// A period of 10 to 1,000,000 ticks, and a deadline from 1 to the period. Two plain numbers, since a timing has no code.
 pub(crate) fn is_clock(period: u32, deadline: u32) -> bool
     ensures { result ≡ clock_fits period deadline }
 {
