@@ -30,8 +30,8 @@ pub struct Operand {
     pub top: u32,
 }
 
-// A command's byte and its operands. A third operand is at most the second. The operands have names, and are no array: a command is
-// made from each by its place.
+// A command's byte and its operands. A third operand is at most the second. Three fields, and no array: each operand goes to a field of its
+// own in the command.
 #[derive(Clone, Copy, Debug, PartialEq, Eq)]
 pub struct Row {
     pub byte: u8,
@@ -252,7 +252,7 @@ impl Operand {
     pub fn holds(self, n: u32) -> bool
         ensures { result ≡ holds self n }
     {
-        self.low <= n && n <= self.top
+        (self.low..=self.top).contains(&n)
     }
 }
 
@@ -370,7 +370,7 @@ impl Command {
     }
 }
 
-// The number that the bytes write, low byte first.
+// The number that the bytes write, low byte first. Their count is known only when it runs, and `from_le_bytes` wants a fixed one.
 fn number(bytes: &[u8]) -> u32
     requires { length bytes.now ≤ 4 }
     ensures is { result ≡ low bytes.now }

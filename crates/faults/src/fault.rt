@@ -27,6 +27,7 @@ pub enum ReadFault {
     TooMany(usize),
 }
 
+// Each fault has methods of its own: as a trait's, callers would have to bring that trait into scope.
 impl ReadFault {
     // Its number in the table of refusals, which is shown; the cases are told apart by the enum.
     pub fn number(self) -> u8

@@ -1,4 +1,4 @@
-// The calls of routines: which are unknown, and which routines call themselves.
+// The calls of a routine: the codes that it calls, and its first call of a code that no routine has.
 ghost use Rattle.std.specs.Prelude.{◌≡◌, ◌<◌, true, false, [], ◌∷◌, slice_set};
 ghost use Rattle.listing.specs.Calls.{calls_at, first_unknown, or_else, CallsTold};
 
@@ -15,6 +15,7 @@ pub struct Calls {
 }
 
 impl Calls {
+    // One more call.
     fn note(&mut self, known: &Heads, call: Head)
         ensures marks { self.new.marks ≡ slice_set self.old.marks call.code true }
         ensures unknown { self.new.unknown ≡ or_else self.old.unknown (first_unknown known.now (call ∷ [])) }

@@ -5,7 +5,7 @@ ghost use Rattle.listing.specs.Cycles.{RowSays};
 use std::array;
 use std::marker::Model;
 
-// Each of the 256 codes is marked or not.
+// Each of the 256 codes is marked or not. The marks lie in an array, since costing takes no memory.
 #[derive(Clone, Copy, Debug, PartialEq, Eq)]
 pub struct Codes {
     marks: [bool; 256],
@@ -24,7 +24,8 @@ impl Model for Codes {
 }
 
 impl Codes {
-    pub(crate) fn none() -> Codes
+    // No code.
+    pub fn none() -> Codes
         ensures { result ≡ replicate 256 false }
     {
         Codes {
@@ -44,13 +45,13 @@ impl Codes {
         }
     }
 
-    pub(crate) fn has(&self, code: u8) -> bool
+    pub fn has(&self, code: u8) -> bool
         ensures { result ≡ slice_index_or self.now code false }
     {
         self.marks[usize::from(code)]
     }
 
-    pub(crate) fn insert(&mut self, code: u8)
+    pub fn insert(&mut self, code: u8)
         ensures { self.new ≡ slice_set self.old code true }
     {
         self.marks[usize::from(code)] = true;

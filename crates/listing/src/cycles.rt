@@ -1,4 +1,5 @@
-// The codes that routines reach by calls, at once or through others.
+// The codes that routines reach by calls, at once or through others. A row for each routine lies in an array of 32, since costing takes no
+// memory.
 ghost use Rattle.std.specs.Prelude.{◌≡◌, ◌<◌, length};
 ghost use Rattle.listing.specs.Cycles.{entry, through, closed, code_at, Tabled};
 

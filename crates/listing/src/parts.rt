@@ -4,7 +4,7 @@ pub use tasks::clock::Clock;
 use tasks::points::Point;
 
 // Its blocks and points.
-#[derive(Drop)]
+#[derive(Debug, PartialEq, Eq, Drop)]
 pub struct Parts {
     pub blocks: Vec<Block>,
     pub points: Vec<Point>,

@@ -5,6 +5,7 @@ use listing::load::load;
 use std::alloc::{AllocError, Global};
 use tasks::model::Task;
 
+// Small letters only: `to_digit` would take capital ones too.
 fn digit(b: u8) -> Option<u8> {
     match b {
         b'0'..=b'9' => Some(b - b'0'),

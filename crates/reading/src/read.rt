@@ -15,7 +15,8 @@ pub const LONGEST: usize = 32_768;
 
 const NO_COSTS: [u32; 256] = [0; 256];
 
-// The routines from the reader's place on. The reader is left at the first command after them.
+// The routines from the reader's place on. The reader is left at the first command after them; the walk over tasks refuses it, so there are
+// two walks.
 fn read_routines(reader: &mut Reader) -> Result<Heads, ReadFault>
     ensures same { reader.new.bytes.now ≡ reader.old.bytes.now }
     ensures told { heads_at result reader.new.at ≡ routine_heads (routines_from reader.old.bytes.now (suc (length reader.old.bytes.now)) [] reader.old.at) }
@@ -43,7 +44,7 @@ fn read_blocks(reader: &mut Reader) -> Result<(), ReadFault>
     ensures told { end_at result reader.new.at ≡ blocks_end (blocks_from reader.old.bytes.now (suc (length reader.old.bytes.now)) 0 reader.old.at) }
     ensures forth { OnOk result (reader.old.at ≤ reader.new.at) }
 {
-    // Counted by hand: the 65th block is refused at its own place, once it is read.
+    // Counted by hand, since a `for` over 65 turns would leave an end behind the loop that no listing reaches.
     let mut count = 0usize;
     'turns: loop {
         let (at, command) = reader
