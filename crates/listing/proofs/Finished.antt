@@ -33,16 +33,13 @@ use Rattle.listing.specs.Places.{Stands, LoadPlaceTold}
 use Rattle.commands.specs.declared.table.Command.TheVariants as command
 use Rattle.commands.specs.declared.table.Context.TheVariants.{BlockDue}
 
-clash : {X Y F : Type 0} {x : X} {f : F} → ◌≡◌ {A = Result X F} (Err f) (Ok x) → Y
-clash e = cc
-
 -- what is left where no fault stood in the way
 passed : {X : Type 0} (o : Option Head) (f : ℕ → ℕ → CostFault) (r : Result X CostFault) (x : X) → unless o f r ≡ Ok x → (o ≡ None) × (r ≡ Ok x)
 passed None f r x e = (refl, e)
-passed (Some h) f r x e = clash e
+passed (Some h) f r x e = cc
 
 judged_ok : (bs : List ℕ) (l : Listing) (r : Result Listing ReadFault) → listing bs ≡ r → judged_after r ≡ Ok l → (listing bs ≡ Ok l) × (dear_from (cost_in l.routines 32) (map routine_head l.routines) ≡ None)
-judged_ok bs l (Err f) a e = clash e
+judged_ok bs l (Err f) a e = cc
 judged_ok bs l (Ok m) a e =
     let p = passed (unknown_in (map routine_head m.routines) (call_lists m.routines ++ block_lists m.tasks)) Unknown _ l e in
     let q = passed (cycle_from (reach_table m.routines) 0 (map routine_head m.routines)) Cycle _ l p.1 in
@@ -67,13 +64,13 @@ costed_by bs k (Ok l) a e =
       tasks_are = ap (λ (x : List Head × List Head × List ℕ). x.1) all;
       costs_are = ap (λ (x : List Head × List Head × List ℕ). x.2) all;
     }
-costed_by bs k (Err f) a e = clash (sym e)
+costed_by bs k (Err f) a e = cc
 
 pub costed : (bs : List ℕ) (k : Costs) → Ok (k.outline.routines, k.outline.tasks, k.by_code) ≡ costs_of (costing bs) → Costed bs k
 costed bs k e = costed_by bs k (costing bs) refl e
 
 cost_fault_by : (f : CostFault) (r : Result Listing CostFault) → Err f ≡ costs_of r → loaded_after r ≡ Err (Cost f)
-cost_fault_by f (Ok l) e = clash e
+cost_fault_by f (Ok l) e = cc
 cost_fault_by f (Err g) e = let same : g ≡ f = cc in ap (λ h. Err (Cost h)) same
 
 pub cost_fault : (bs : List ℕ) (f : CostFault) → Err f ≡ costs_of (costing bs) → loading bs ≡ Err (Cost f)

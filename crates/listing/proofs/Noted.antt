@@ -1,4 +1,5 @@
 -- What one turn of noting calls keeps. Assumes nothing.
+use Rattle.std.proofs.Math.Bool.{or-true, or-false}
 use Rattle.std.proofs.Common.{◌≡◌, ℕ, suc, ◌+◌, ◌-◌, ◌<◌, ◌≤◌, Bool, true, false, ◌||◌, ◌≢◌, List, [], ◌∷◌, length, get_or, set, replicate, Some, None, Ok, Err, Option, Result, inl, inr, ◌⊎◌, sym, refl, ap, ◌∙◌, subst, ⊎_elim, arith, length-set, get_or-set_other, get_or-set_same, eq-eqb, ne_eqb}
 use Rattle.std.specs.Option.{option_flatten}
 use Rattle.std.specs.Result.{result_ok}
@@ -32,14 +33,6 @@ no_call (Point n m) f e x h i = refl
 no_call EndTask f e x h i = refl
 no_call Sheet f e x h i = refl
 
-pub or_false : (b : Bool) → (b || false) ≡ b
-or_false true = refl
-or_false false = refl
-
-or_true : (b : Bool) → (b || true) ≡ true
-or_true true = refl
-or_true false = refl
-
 or_else_none : (o : Option Head) → or_else o None ≡ o
 or_else_none None = refl
 or_else_none (Some h) = refl
@@ -72,7 +65,7 @@ more_marks ms k at c rest long h =
     (λ e.
     let inside : k < length ms = omega arith in
     ap (λ b. get_or (set ms k true) b false || used c rest) (sym e) ∙ ap (λ b. b || used c rest) (get_or-set_same ms k true false inside)
-    ∙ sym (or_true (get_or ms c false)) ∙ ap (λ b. get_or ms c false || b) (sym (ap (λ b. b || used c rest) (eq-eqb k c e))))
+    ∙ sym (or-true (get_or ms c false)) ∙ ap (λ b. get_or ms c false || b) (sym (ap (λ b. b || used c rest) (eq-eqb k c e))))
     (λ e.
     let ne : c ≢ k = λ q. e (sym q) in
     ap (λ b. b || used c rest) (get_or-set_other ms k c true false ne) ∙ ap (λ b. get_or ms c false || b) (sym (ap (λ b. b || used c rest) (ne_eqb k c e))))
@@ -94,7 +87,7 @@ module _ (known whole : List Head) (bs : List ℕ) (r : Calls) (place : ℕ) (g 
   all_noted : calls_from bs (suc g.left) place ≡ [] → CallsTold known whole r
   all_noted e =
       record {
-        marks = λ c h. sym (or_false (get_or r.marks c false)) ∙ ap (λ hs. get_or r.marks c false || used c hs) (sym e) ∙ g.marks_are c h;
+        marks = λ c h. sym (or-false (get_or r.marks c false)) ∙ ap (λ hs. get_or r.marks c false || used c hs) (sym e) ∙ g.marks_are c h;
         unknown = sym (or_else_none r.unknown) ∙ ap (λ hs. or_else r.unknown (first_unknown known hs)) (sym e) ∙ g.unknown_is;
       }
 

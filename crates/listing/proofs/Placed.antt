@@ -1,4 +1,5 @@
 -- At the places that costing tells stand the commands that are at fault. Assumes nothing.
+use Rattle.std.proofs.ByRecursion.{All-weaker, All-append}
 use Rattle.std.proofs.Common.{◌≡◌, ℕ, suc, ◌+◌, ltb, List, [], ◌∷◌, ◌++◌, map, length, Some, None, Ok, Err, Option, Result, refl, ap, ◌∙◌, subst, inl, inr}
 use Rattle.std.specs.List.{AllByRecursion}
 use Rattle.faults.specs.declared.fault.CostFault.{CostFault}
@@ -20,14 +21,6 @@ use Rattle.listing.proofs.Judged.{listing_parts}
 use Rattle.listing.proofs.Standing.{calls_stand, blocks_stand, cond_has, self_has, unknown_has}
 use Rattle.listing.proofs.Walked.{calls_are}
 
-all_map : {X : Type 0} {P Q : X → Type 0} → ((x : X) → P x → Q x) → (xs : List X) → AllByRecursion P xs → AllByRecursion Q xs
-all_map f [] all = tt
-all_map f (x ∷ xs) all = (f x all.0, all_map f xs all.1)
-
-all_append : {X : Type 0} (P : X → Type 0) (xs ys : List X) → AllByRecursion P xs → AllByRecursion P ys → AllByRecursion P (xs ++ ys)
-all_append P [] ys a b = b
-all_append P (x ∷ xs) ys a b = (a.0, all_append P xs ys a.1 b)
-
 module _ (bs : List ℕ) where
   abbrev Named : Head → Type 0
   Named h = FaultStands bs (Unknown h.at h.code)
@@ -38,14 +31,14 @@ module _ (bs : List ℕ) where
   calls_named : (rs : List Routine) → AllByRecursion (BodyRead bs) rs → AllByRecursion (AllByRecursion Named) (call_lists rs)
   calls_named [] all = tt
   calls_named (r ∷ rs) all = (
-    subst (AllByRecursion Named) (calls_are bs r all.0) (all_map (λ h e. inl (Body, e)) _ (calls_stand (suc (length bs)) bs (after Top bs r.at))),
+    subst (AllByRecursion Named) (calls_are bs r all.0) (All-weaker _ _ (λ h e. inl (Body, e)) _ (calls_stand (suc (length bs)) bs (after Top bs r.at))),
     calls_named rs all.1,
   )
 
   blocks_named : (ts : List Task) → AllByRecursion (TaskRead bs) ts → AllByRecursion (AllByRecursion Named) (block_lists ts)
   blocks_named [] all = tt
   blocks_named (t ∷ ts) all = (
-    all_map (λ h e. inr (BlockDue, e)) _ (blocks_stand (suc (length bs)) bs 0 _ (t.blocks, all.0.end) all.0.blocks_are),
+    All-weaker _ _ (λ h e. inr (BlockDue, e)) _ (blocks_stand (suc (length bs)) bs 0 _ (t.blocks, all.0.end) all.0.blocks_are),
     blocks_named ts all.1,
   )
 
@@ -74,5 +67,5 @@ module _ (bs : List ℕ) where
   places_told l is (Ok k) e = tt
   places_told l is (Err f) e =
       let p = listing_parts bs l is in
-      by_order l _ _ _ (λ h q. unknown_has Named (map routine_head l.routines) (call_lists l.routines ++ block_lists l.tasks) h (all_append (AllByRecursion Named) (call_lists l.routines) (block_lists l.tasks) (calls_named l.routines p.0) (blocks_named l.tasks p.1)) q)
+      by_order l _ _ _ (λ h q. unknown_has Named (map routine_head l.routines) (call_lists l.routines ++ block_lists l.tasks) h (All-append (AllByRecursion Named) (call_lists l.routines) (block_lists l.tasks) (calls_named l.routines p.0) (blocks_named l.tasks p.1)) q)
       (λ h q. cycle_begun (reach_table l.routines) 0 (map routine_head l.routines) h (begun l.routines p.0) q) (λ h q. dear_begun (cost_in l.routines 32) (map routine_head l.routines) h (begun l.routines p.0) q) f (e ∙ ap (λ x. costs_of (judged_after x)) is)

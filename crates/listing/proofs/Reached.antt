@@ -262,9 +262,6 @@ module _ (rs : List Routine) (acyclic : (i : ℕ) → i < length rs → reach_ta
     only_costs of e c = agree (λ k. of) (cost_in rs) (record { first = λ d z. e d ∙ z of; more = λ k d. e d }) passes 32 c (low_32 c)
 
 -- what costing tells of cycles
-clash : {X Y F : Type 0} {x : X} {f : F} → ◌≡◌ {A = Result X F} (Err f) (Ok x) → Y
-clash e = cc
-
 module _ (bs : List ℕ) (l : Listing) (is : listing bs ≡ Ok l) (few : length l.routines ≤ 32) where
   rs : List Routine
   rs = l.routines
@@ -293,14 +290,14 @@ module _ (bs : List ℕ) (l : Listing) (is : listing bs ≡ Ok l) (few : length 
   by_dear o (Ok k) n e = (l, is, settled n)
   by_dear o (Err (Read f)) n e = tt
   by_dear o (Err (Unknown at c)) n e = tt
-  by_dear None (Err (Cycle at c)) n e = clash e
+  by_dear None (Err (Cycle at c)) n e = cc
   by_dear (Some h) (Err (Cycle at c)) n e = cc
   by_dear o (Err (TooDear at c)) n e = (l, is, settled n)
 
   by_cycle : (o : Option Head) (r : Result Costs CostFault) → cycle_from (reach_table rs) 0 (map routine_head rs) ≡ o → cost_told r ≡ costs_of (unless o Cycle (unless (dear_from (cost_in rs 32) (map routine_head rs)) TooDear (Ok l))) → CycleTold bs r
   unfolding rs
   by_cycle None r n e = by_dear _ r n e
-  by_cycle (Some h) (Ok k) n e = clash (sym e)
+  by_cycle (Some h) (Ok k) n e = cc
   by_cycle (Some h) (Err (Read f)) n e = tt
   by_cycle (Some h) (Err (Unknown at c)) n e = tt
   by_cycle (Some h) (Err (Cycle at c)) n e =
@@ -312,7 +309,7 @@ module _ (bs : List ℕ) (l : Listing) (is : listing bs ≡ Ok l) (few : length 
   by_unknown : (o : Option Head) (r : Result Costs CostFault) → cost_told r ≡ costs_of (unless o Unknown (unless (cycle_from (reach_table rs) 0 (map routine_head rs)) Cycle (unless (dear_from (cost_in rs 32) (map routine_head rs)) TooDear (Ok l)))) → CycleTold bs r
   unfolding rs
   by_unknown None r e = by_cycle _ r refl e
-  by_unknown (Some h) (Ok k) e = clash (sym e)
+  by_unknown (Some h) (Ok k) e = cc
   by_unknown (Some h) (Err (Read f)) e = tt
   by_unknown (Some h) (Err (Unknown at c)) e = tt
   by_unknown (Some h) (Err (Cycle at c)) e = cc

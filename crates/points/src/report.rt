@@ -83,12 +83,9 @@ impl fmt::Display for Shown {
 
 // An answer as it is printed: cost, points and longest stretch, and then each stretch with its blocks and length.
 fn print_found(rt: &HostRuntime, task: &Task, ask: Ask, found: Answer) -> anyhow::Result<()> {
-    let numbers = task
-        .chosen(rt.alloc(), found.points)
-        .map_err(|_| anyhow!("no memory is left"))?;
-    let stretches = task
-        .stretches(rt.alloc(), found.points)
-        .map_err(|_| anyhow!("no memory is left"))?;
+    let no_memory = |_: Refusal| anyhow!("no memory is left");
+    let numbers = task.chosen(rt.alloc(), found.points).map_err(no_memory)?;
+    let stretches = task.stretches(rt.alloc(), found.points).map_err(no_memory)?;
     println!(rt;
         "{ask}: cost {}, points{}, longest stretch {}",
         found.cost,
