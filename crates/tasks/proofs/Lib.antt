@@ -1,5 +1,4 @@
 pub mod Fits
 pub mod Words
-pub mod Chosen
 pub mod Answering
 pub mod Walks

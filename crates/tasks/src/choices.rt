@@ -1,12 +1,11 @@
-ghost use Rattle.std.specs.Prelude.{◌≡◌, ◌+◌, ◌≤◌, map, length, IfOk};
-ghost use Rattle.std.specs.List.{filter, range_with_len};
+ghost use Rattle.std.specs.Prelude.{◌≡◌, ◌+◌, ◌≤◌, length};
 ghost use Rattle.tasks.specs.Choices.{told};
 ghost use Rattle.tasks.specs.Tasks.{point_count, cost_of_block, cost_of, longest_of, points_of};
 ghost use Rattle.tasks.specs.Under.{under, ListedUnder, StretchesUnder};
 
 use crate::model::Task;
 use crate::refusals::Refusal;
-use std::alloc::{AllocError, Global};
+use std::alloc::Global;
 
 // Whether a word chooses the point at an index.
 pub fn is_chosen(word: u64, index: usize) -> bool
@@ -80,22 +79,19 @@ impl Task {
         ensures { ListedUnder self.now word result }
     {
         self.admit(word)?;
-        Ok(chosen_below(heap, word, self.points.len() as u32)?)
+        let mut list = Vec::new(heap);
+        let mut rest = word;
+        // One step for each chosen point: no item to go over, only from one set bit to the next.
+        while rest != 0 {
+            let index = rest.trailing_zeros();
+            list.push(index + 1)?;
+            rest -= 1 << index;
+        }
+        Ok(list)
     }
 }
 
 // A task has 63 points at most, so their counts and indices fit a `u32`; std has no `From` between it and `usize`, and `as` is proved to keep them.
-
-// The numbers of the first `count` points that a word chooses, rising.
-fn chosen_below(heap: Global, word: u64, count: u32) -> Result<Vec<u32>, AllocError>
-    requires { count ≤ 63 }
-    ensures { IfOk result (λ list. list.items ≡ map (λ i. i + 1) (filter (told word) (range_with_len 0 count))) }
-{
-    (0..count)
-        .filter(|i| is_chosen(word, *i as usize))
-        .map(|i| i + 1)
-        .collect(heap)
-}
 
 // A stretch (non-preemptive region) of a task: the numbers of its first and last blocks, from 1, and its length in ticks.
 #[derive(Clone, Copy, PartialEq, Eq, Debug)]
