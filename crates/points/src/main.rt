@@ -18,7 +18,7 @@ fn read(rt: &HostRuntime) -> anyhow::Result<Draft> {
     let mut draft = Draft::new(rt.alloc());
     for (i, text) in rt.lines(rt.alloc()).enumerate() {
         let text = text?;
-        let number = i.saturating_add(1);
+        let number = u32::try_from(i).unwrap_or(u32::MAX).saturating_add(1);
         let added = read_line(text.as_str()).and_then(|line| draft.add(line));
         if let Err(problem) = added {
             return Err(anyhow!(format!(in rt.alloc(); "line {number}: {problem}")?));
