@@ -20,7 +20,7 @@ use Rattle.reading.specs.Runs.{Ended, Parsed, Armed, ends, more_arms, arms_by, a
 use Rattle.reading.specs.Listings.{more_routines, routine_turn, routines_from, more_tasks, task_turn, tasks_from, blocks_from, tasks_then, listing, told, outline_of}
 use Rattle.reading.specs.Encoding.{encode}
 use Rattle.reading.specs.Fitting.{FitsItem, FitsRun, FitsArms, nest_item, nest_run, nest_arms, FitsRoutines, FitsBlocks, FitsTasks, Fits, Accepted}
-use Rattle.reading.specs.declared.outline.Outline.{Outline}
+use Rattle.reading.specs.Outlines.{Outline}
 use Rattle.reading.proofs.Accepts.{accepts}
 use Rattle.reading.proofs.Encoded.{accepted}
 use Rattle.commands.proofs.Rows.{Ranged, ranged}

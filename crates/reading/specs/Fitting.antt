@@ -2,7 +2,7 @@
 use Rattle.std.specs.Prelude.{◌≡◌, ℕ, suc, ◌+◌, ◌<◌, ◌≤◌, max, Bool, false, List, [], ◌∷◌, ◌++◌, length, Ok, Err, Result, ◌==◌, ◌≢◌}
 use Rattle.std.specs.List.{list_any}
 use Rattle.faults.specs.declared.fault.ReadFault.{ReadFault}
-use Rattle.reading.specs.declared.outline.Outline.{Outline}
+use Rattle.reading.specs.Outlines.{Outline}
 use Rattle.reading.specs.Encoding.{encode}
 use Rattle.reading.specs.Listings.{listing}
 use Rattle.reading.specs.Trees.{Item, work, call, either, repeat, Run, done, next, Arms, one, more, Routine, Blocks, final, block, Task, Listing}

@@ -6,3 +6,4 @@ pub mod Steps
 pub mod Bodies
 pub mod Encoding
 pub mod Fitting
+pub mod Outlines

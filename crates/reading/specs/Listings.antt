@@ -7,7 +7,7 @@ use Rattle.commands.specs.declared.table.Command.TheVariants as command
 use Rattle.commands.specs.declared.table.Context.TheVariants.{Top, Tasks, BlockDue, AfterBlock}
 use Rattle.reading.specs.declared.heads.Head.{Head}
 use Rattle.reading.specs.declared.heads.Heads.{Heads}
-use Rattle.reading.specs.declared.outline.Outline.{Outline}
+use Rattle.reading.specs.Outlines.{Outline}
 use Rattle.commands.specs.Commands.{answer, after}
 use Rattle.reading.specs.Heads.{head, used}
 use Rattle.reading.specs.Trees.{Run, Routine, Blocks, final, block, Task, Listing}

@@ -60,9 +60,10 @@ pub fn cost_run(
     let mut total = 0;
     // Nothing is counted: an item ends where its own walk leaves the reader.
     'items: loop {
-        let (at, command) = reader
-            .next(Context::Body)?
-            .ok_or(ReadFault::Open(reader.bytes.len()))?;
+        // Each command of each pass goes through here, and `ok_or` would copy it once more.
+        let Some((at, command)) = reader.next(Context::Body)? else {
+            return Err(ReadFault::Open(reader.bytes.len()));
+        };
         if ends_run(command) {
             return Ok(Ran {
                 cost: total,

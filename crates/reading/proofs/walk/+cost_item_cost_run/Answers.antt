@@ -4,7 +4,7 @@ use Rattle.commands.specs.declared.table.Context.TheVariants.{Body}
 use Rattle.faults.specs.declared.fault.ReadFault.TheVariants.{Open}
 use Rattle.commands.specs.Commands.{answer, after}
 use Rattle.commands.proofs.Decoded.{read_there}
-use Rattle.reading.proofs.Turns.{ok_or_err, run_err, item_err, told_there, item_there, item_by, start, at_open, at_fault, at_end, at_item_fault, at_item, too_deep, first_arm, arm_fault, arm_last, arm_none, arm_next, turns_last}
+use Rattle.reading.proofs.Turns.{run_err, item_err, told_there, item_there, item_by, start, at_open, at_fault, at_end, at_item_fault, at_item, too_deep, first_arm, arm_fault, arm_last, arm_none, arm_next, turns_last}
 use Rattle.reading.proofs.walk.+cost_item_cost_run.Goals as goal
 
 pub cost_run-returns-then-depth-eq0-clause-told : goal.cost_run-returns-then-depth-eq0-clause-told
@@ -13,45 +13,42 @@ cost_run-returns-then-depth-eq0-clause-told t c = too_deep _ _ _ _ _ _ c.if-dept
 pub cost_run-items-init : goal.cost_run-items-init
 cost_run-items-init t c = (refl, omega arith, omega arith, start _ _ _ _ _ (omega arith))
 
-pub cost_run-returns-in_err-next-clause-told : goal.cost_run-returns-in_err-next-clause-told
-cost_run-returns-in_err-next-clause-told t c =
+pub cost_run-returns-in_err-at-clause-told : goal.cost_run-returns-in_err-at-clause-told
+cost_run-returns-in_err-at-clause-told t c =
     let p = err_from_is_err_and c.from_residual.result c.from_residual.ensures.1 in
-    let n = c.in_err-next.ensures in
+    let n = c.in_err-at.ensures in
     let bs = c.items.invariant.0 in
     rw (p.1, p.2) (run_err _ _ _ _ (at_fault _ _ _ _ _ _ c.items.invariant.3 (sym (n.told ∙ ap (λ b. answer Body b c.items.reader.at) bs))))
 
-pub cost_run-returns-in_err-at-clause-told : goal.cost_run-returns-in_err-at-clause-told
-cost_run-returns-in_err-at-clause-told t c =
-    let p = err_from_is_err_and c.from_residual-in_err-at.result c.from_residual-in_err-at.ensures.1 in
-    let n = c.in_ok-next.ensures in
+pub cost_run-returns-in_default-clause-told : goal.cost_run-returns-in_default-clause-told
+cost_run-returns-in_default-clause-told t c =
+    let n = c.in_ok-at.ensures in
     let bs = c.items.invariant.0 in
-    let o = c.in_err-at.ensures in
-    rw (p.1, p.2)
-    (run_err _ _ _ _ (at_open _ _ _ _ _ _ c.items.invariant.3 (sym (n.told ∙ ap (λ b. answer Body b c.items.reader.at) bs) ∙ ap Ok o.ok_part) ∙ ap Err (ap (λ b. Open (length b)) (sym (n.same ∙ bs)) ∙ sym (ok_or_err _ _ _ o.value))))
+    run_err _ _ _ _ (at_open _ _ _ _ _ _ c.items.invariant.3 (sym (n.told ∙ ap (λ b. answer Body b c.items.reader.at) bs) ∙ ap Ok c.in_default.is) ∙ ap (λ b. Err (Open (length b))) (sym (n.same ∙ bs)))
 
 pub cost_run-returns-then-ends_run-clause-told : goal.cost_run-returns-then-ends_run-clause-told
 cost_run-returns-then-ends_run-clause-told t c =
-    let n = c.in_ok-next.ensures in
+    let n = c.in_ok-at.ensures in
     let bs = c.items.invariant.0 in
-    let e = read_there _ _ c.args.reader.now.bytes.now _ _ _ _ n.told bs c.in_ok-at.ensures.ok_part in
+    let e = read_there _ _ c.args.reader.now.bytes.now _ _ _ _ n.told bs c.in-Some.is in
     at_end _ _ _ _ _ _ c.items.invariant.3 _ _ e (sym c.if-ends_run.ensures) _ (n.moved ∙ ap (λ b. after Body b c.items.reader.at) bs)
 
 pub cost_run-returns-in_err-cost-clause-told : goal.cost_run-returns-in_err-cost-clause-told
 cost_run-returns-in_err-cost-clause-told t c =
     let p = err_from_is_err_and c.from_residual-in_err-cost.result c.from_residual-in_err-cost.ensures.1 in
-    let n = c.in_ok-next.ensures in
+    let n = c.in_ok-at.ensures in
     let i = c.in_err-cost.ensures in
     let bs = c.items.invariant.0 in
-    let e = read_there _ _ c.args.reader.now.bytes.now _ _ _ _ n.told bs c.in_ok-at.ensures.ok_part in
+    let e = read_there _ _ c.args.reader.now.bytes.now _ _ _ _ n.told bs c.in-Some.is in
     let on = n.moved ∙ ap (λ b. after Body b c.items.reader.at) bs in
     rw (p.1, p.2) (run_err _ _ _ _ (at_item_fault _ _ _ _ _ _ c.items.invariant.3 _ _ e (sym c.if-ends_run.ensures) _ _ (item_there _ _ _ _ _ _ _ _ _ _ (n.same ∙ bs) on i.told)))
 
 pub cost_run-items-preserved : goal.cost_run-items-preserved
 cost_run-items-preserved t c =
-    let n = c.in_ok-next.ensures in
+    let n = c.in_ok-at.ensures in
     let i = c.in_ok-cost.ensures in
     let bs = c.items.invariant.0 in
-    let e = read_there _ _ c.args.reader.now.bytes.now _ _ _ _ n.told bs c.in_ok-at.ensures.ok_part in
+    let e = read_there _ _ c.args.reader.now.bytes.now _ _ _ _ n.told bs c.in-Some.is in
     let on = n.moved ∙ ap (λ b. after Body b c.items.reader.at) bs in
     let long = ap length bs in
     let forth : (c.items.reader.at < c.next.new.self.at) × (c.next.new.self.at ≤ length c.items.reader.bytes.now) = search rules in (
