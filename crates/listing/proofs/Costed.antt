@@ -5,7 +5,7 @@ use Rattle.faults.specs.declared.fault.ReadFault.{ReadFault}
 use Rattle.faults.specs.declared.fault.CostFault.{CostFault}
 use Rattle.faults.specs.declared.fault.CostFault.TheVariants.{Read, Unknown, Cycle, TooDear}
 use Rattle.reading.specs.declared.heads.Head.{Head}
-use Rattle.reading.specs.declared.outline.Outline.{Outline}
+use Rattle.reading.specs.Outlines.{Outline}
 use Rattle.reading.specs.Fitting.{FitsRoutines, Accepted}
 use Rattle.reading.specs.Heads.{used}
 use Rattle.reading.specs.Trees.{Routine, Task, Listing}
@@ -17,7 +17,7 @@ use Rattle.listing.specs.Marks.{marked_in}
 use Rattle.reading.specs.Bodies.{BodyRead, TaskRead}
 use Rattle.listing.specs.Costing.{Capped}
 use Rattle.listing.specs.Costing.{call_lists, block_lists, unknown_in, table_of, reach_table, cycle_from, dear_from, cost_in, calls_in, unless, judged, judged_after, costing}
-use Rattle.listing.specs.declared.cost.Costs.{Costs}
+use Rattle.listing.specs.Values.{Costs}
 use Rattle.listing.specs.Costed.{cost_told, costs_of}
 use Rattle.listing.specs.Reach.{CycleTold, OnlyTold}
 use Rattle.listing.specs.Places.{PlaceTold}
@@ -52,6 +52,10 @@ outlined_by bs o (Err f) a e = cc
 
 pub outlined : (bs : List ℕ) (o : Outline) → Ok (o.routines, o.tasks) ≡ outline_of (listing bs) → Outlined bs o
 outlined bs o e = outlined_by bs o (listing bs) refl e
+
+-- the same of an outline whose fields were taken out
+pub outlined_as : (bs : List ℕ) (o p : Outline) → p ≡ o → Ok (o.routines, o.tasks) ≡ outline_of (listing bs) → Outlined bs p
+outlined_as bs o p same e = outlined bs p (ap (λ (q : Outline). Ok (q.routines, q.tasks)) same ∙ e)
 
 -- routines that fit are at most 32
 few_routines : (seen : List ℕ) (rs : List Routine) → length seen ≤ 32 → FitsRoutines seen rs → length seen + length rs ≤ 32

@@ -11,7 +11,8 @@ use Rattle.faults.specs.declared.fault.CostFault.TheVariants.{Unknown, Cycle, To
 use Rattle.faults.specs.declared.fault.LoadFault.{LoadFault}
 use Rattle.faults.specs.declared.fault.LoadFault.TheVariants.{Cost, FreeBlock, NoMemory}
 use Rattle.reading.specs.declared.heads.Head.{Head}
-use Rattle.listing.specs.declared.cost.Costs.{Costs}
+use Rattle.listing.specs.Values.{Costs}
+use Rattle.reading.specs.Outlines.{Outline}
 use Rattle.reading.specs.Bodies.{TaskRead}
 use Rattle.listing.specs.Cycles.{RowSays}
 use Rattle.reading.specs.Runs.{cost_of_code}
@@ -68,6 +69,11 @@ costed_by bs k (Err f) a e = cc
 
 pub costed : (bs : List ℕ) (k : Costs) → Ok (k.outline.routines, k.outline.tasks, k.by_code) ≡ costs_of (costing bs) → Costed bs k
 costed bs k e = costed_by bs k (costing bs) refl e
+
+-- the same of costs whose fields were taken out, and those of the outline in them
+pub costed_as : (bs : List ℕ) (k : Costs) (o : Outline) (by_code : List ℕ) → record { outline = o; by_code = by_code } ≡ k → (p : Outline) → p ≡ o → Ok (k.outline.routines, k.outline.tasks, k.by_code) ≡ costs_of (costing bs) → Costed bs (record { outline = p; by_code = by_code })
+costed_as bs k o by_code same p inside e =
+    costed bs _ (ap (λ (q : Outline). Ok (q.routines, q.tasks, by_code)) inside ∙ ap (λ (l : Costs). Ok (l.outline.routines, l.outline.tasks, l.by_code)) same ∙ e)
 
 cost_fault_by : (f : CostFault) (r : Result Listing CostFault) → Err f ≡ costs_of r → loaded_after r ≡ Err (Cost f)
 cost_fault_by f (Ok l) e = cc

@@ -1,7 +1,7 @@
 -- What an array that is made by a function has at each place. Assumes nothing.
 use Rattle.std.proofs.Common.{◌≡◌, ℕ, zero, suc, ◌+◌, ◌<◌, ◌≤◌, List, get_or, sym, subst, ⊎_elim, arith}
 use Rattle.std.proofs.lemmas.Bool.{cases_lt}
-use Rattle.std.specs.Array.{IsFromFnResult, IsFromFnResultFrom, IsMapOf, MapsFrom}
+use Rattle.std.specs.Array.{IsFromFnResult, IsFromFnResultFrom}
 use Rattle.std.specs.Fn.{Called}
 use denote.Param.Members.{Mut}
 
@@ -18,17 +18,3 @@ module _ {F B : Type 0} (g : Mut F (ℕ × Unit {0}) B) (f : F) (P : ℕ → B �
 
 pub made : {F B : Type 0} {g : Mut F (ℕ × Unit {0}) B} {f : F} {ys : List B} {n : ℕ} (P : ℕ → B → Type 0) → IsFromFnResult g f ys n → ((x : ℕ) (y : B) (q : F) → Called g f (x, tt) y q → (q ≡ f) × P x y) → (k : ℕ) (d : B) → k < n → P k (get_or ys k d)
 made {F} {B} {g} {f} {ys} {n} P r each k d h = made_from g f P each ys 0 n r.each k d (omega arith) (omega arith)
-
--- the same of an array that is mapped
-module _ {F A B : Type 0} (g : Mut F (A × Unit {0}) B) (f : F) (P : A → B → Type 0) (each : (x : A) (y : B) (q : F) → Called g f (x, tt) y q → (q ≡ f) × P x y) (xs : List A) (ys : List B) where
-  mapped_from : (i n : ℕ) → MapsFrom g f xs ys i n → (k : ℕ) (d : A) (e : B) → i ≤ k → k < i + n → P (get_or xs k d) (get_or ys k e)
-  mapped_from i zero h k d e a b = absurd (omega arith)
-  mapped_from i (suc n) h k d e a b =
-      let c = each h.1 h.2 h.0 h.5 in
-      ⊎_elim
-      (λ later. mapped_from (i + 1) n (subst (λ p. MapsFrom g p xs ys (i + 1) n) c.0 h.6) k d e (omega arith) (omega arith))
-      (λ here. let same : i ≡ k = omega arith in subst (λ m. P (get_or xs m d) (get_or ys m e)) same (subst (λ x. P x (get_or ys i e)) (sym (h.3.1 d)) (subst (P h.1) (sym (h.4.1 e)) c.1)))
-      (cases_lt i k)
-
-pub mapped : {F A B : Type 0} {g : Mut F (A × Unit {0}) B} {f : F} {xs : List A} {ys : List B} {n : ℕ} (P : A → B → Type 0) → IsMapOf g f xs ys n → ((x : A) (y : B) (q : F) → Called g f (x, tt) y q → (q ≡ f) × P x y) → (k : ℕ) (d : A) (e : B) → k < n → P (get_or xs k d) (get_or ys k e)
-mapped {F} {A} {B} {g} {f} {xs} {ys} {n} P r each k d e h = mapped_from g f P each xs ys 0 n r.each k d e (omega arith) (omega arith)

@@ -11,7 +11,7 @@ use Rattle.commands.specs.declared.table.Command.TheVariants.{Routine, Work, Cal
 use Rattle.commands.specs.declared.table.Context.{Context}
 use Rattle.commands.specs.declared.table.Context.TheVariants.{Body}
 use Rattle.reading.specs.declared.heads.Head.{Head}
-use Rattle.listing.specs.declared.calls.Calls.{Calls}
+use Rattle.listing.specs.Values.{Calls}
 use Rattle.commands.specs.Commands.{answer, after}
 use Rattle.reading.specs.Heads.{head, used}
 use Rattle.listing.specs.Calls.{by_call, calls_turn, calls_from, first_unknown, or_else, CallsTold}

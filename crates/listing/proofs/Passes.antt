@@ -1,12 +1,13 @@
 -- Costs by passes, at most 1,000,001. Assumes nothing.
-use Rattle.std.proofs.Common.{◌≡◌, ℕ, zero, suc, ◌+◌, ◌*◌, ◌<◌, ◌≤◌, min, List, [], ◌∷◌, map, get_or, replicate, Some, None, Ok, Option, eqb, subst, sym, refl, ap, ◌∙◌, ⊎_elim, add-one, arith, eq-eqb, ne_eqb}
-use Rattle.std.proofs.lemmas.List.{get_or_past}
-use Rattle.std.proofs.lemmas.Bool.{cond-true, cond-false, cases_Bool, cases_eq, cases_lt}
-use Rattle.std.specs.List.{AllByRecursion, find}
-use Rattle.std.specs.Option.{MatchOption}
+use Rattle.std.proofs.Common.{◌≡◌, ℕ, zero, suc, ◌+◌, ◌-◌, ◌*◌, ◌<◌, ◌≤◌, min, ◌≢◌, List, [], ◌∷◌, map, length, get_or, drop, set, replicate, Ok, sym, refl, ap, ◌∙◌, ⊎_elim, add-one, arith, length-set, get_or-set_other, get_or-set_same, eq-eqb, ne_eqb}
+use Rattle.std.proofs.lemmas.List.{at_drop_more, at_drop_all, get_or-map, get_or_past, length-map}
+use Rattle.std.proofs.lemmas.Bool.{cond-true, cond-false, cases_eq, cases_lt}
+use Rattle.std.proofs.ByRecursion.{All-get_or}
+use Rattle.std.specs.List.{AllByRecursion}
 use Rattle.reading.specs.declared.heads.Head.{Head}
 use Rattle.commands.specs.declared.table.Context.TheVariants.{Top}
 use Rattle.commands.specs.Commands.{after}
+use Rattle.reading.specs.Heads.{head}
 use Rattle.reading.specs.Trees.{Item, work, call, either, repeat, Run, done, next, Arms, one, more, Routine, item_cost, run_cost, cost_arms}
 use Rattle.reading.specs.Listings.{routine_head}
 use Rattle.reading.specs.Runs.{Ended, run_at, cost_of_code}
@@ -44,34 +45,58 @@ module _ (of of' : ℕ → ℕ) (same : (c : ℕ) → of' c ≡ min (of c) 10000
       (λ e. ap (λ n. min n 1000001) (cond-false _ _ _ (ne_eqb _ c e)) ∙ cap_by rs c ∙ sym (ap (λ n. min n 1000001) (cond-false _ _ _ (ne_eqb _ c e))))
       (cases_eq r.code c)
 
+no_routine : Routine
+no_routine = record { code = 0; at = 0; body = done }
+
 zeros : (n c : ℕ) → ◌≡◌ {A = ℕ} (get_or (replicate n 0) c 0) 0
 zeros zero c = refl
 zeros (suc n) zero = refl
 zeros (suc n) (suc c) = zeros n c
 
--- the routine that is found by a code gives the code its cost
-module _ (bs : List ℕ) (of : ℕ → ℕ) (c : ℕ) where
-  abbrev FoundCost : ℕ → Option Head → Type 0
-  FoundCost n o = MatchOption o (n ≡ 0) (λ h. (e : Ended) × (run_at 9 bs h.at (after Top bs h.at) ≡ Ok e) × (n ≡ run_cost of e.run))
+-- no routine is costed yet
+pub none_costed : (of : ℕ → ℕ) (rs : List Routine) (n : ℕ) → length rs ≤ n → Capped (replicate 256 0) (cost_by of (drop n rs))
+none_costed of rs n h =
+    record { wide = refl; says = λ c _. zeros 256 c ∙ sym (ap (λ f. min f 1000001) (at_drop_all (λ l. cost_by of l c) rs n h)) }
 
-  found_cost : (rs : List Routine) → AllByRecursion (BodyRead bs) rs → (o : Option Head) → find (λ (h : Head). eqb h.code c) (map routine_head rs) ≡ o → FoundCost (cost_by of rs c) o
-  found_cost [] all o f = subst (FoundCost 0) f refl
-  found_cost (r ∷ rs) all o f =
-      ⊎_elim
-      (λ e. subst (FoundCost (cost_by of (r ∷ rs) c)) (sym (cond-true _ _ _ e) ∙ f) (all.0.ended, all.0.run_is, cond-true _ _ _ e ∙ ap (run_cost of) (sym all.0.body_is)))
-      (λ e. subst (λ n. FoundCost n o) (sym (cond-false _ _ _ e)) (found_cost rs all.1 o (sym (cond-false _ _ _ e) ∙ f)))
-      (cases_Bool (eqb r.code c))
+module _ (bs : List ℕ) (of : ℕ → ℕ) (rs : List Routine) (hs : List Head) (heads_are : hs ≡ map routine_head rs) (bodies : AllByRecursion (BodyRead bs) rs) (i : ℕ) (some : 0 < i) (inside : i ≤ length hs) where
+  low : i - 1 < length rs
+  low = omega (arith, ap length heads_are ∙ length-map rs routine_head)
 
-  module _ (rs : List Routine) (hs : List Head) (is : hs ≡ map routine_head rs) (all : AllByRecursion (BodyRead bs) rs) where
-    pub costed_none : None ≡ find (λ (h : Head). eqb h.code c) hs → 0 ≡ min (cost_by of rs c) 1000001
-    costed_none f =
-        let e : cost_by of rs c ≡ 0 = found_cost rs all None (sym (f ∙ ap (find (λ (h : Head). eqb h.code c)) is)) in
-        ap (λ k. min k 1000001) (sym e)
+  it : Routine
+  it = get_or rs (i - 1) no_routine
 
-    pub costed_code : (h : Head) (n : ℕ) → Some h ≡ find (λ (h : Head). eqb h.code c) hs → ((e : Ended) → run_at 9 bs h.at (after Top bs h.at) ≡ Ok e → n ≡ min (run_cost of e.run) 1000001) → n ≡ min (cost_by of rs c) 1000001
-    costed_code h n f gives =
-        let e = found_cost rs all (Some h) (sym (f ∙ ap (find (λ (h : Head). eqb h.code c)) is)) in
-        gives e.0 e.1 ∙ ap (λ k. min k 1000001) (sym e.2)
+  it_read : BodyRead bs it
+  unfolding it
+  it_read = All-get_or (BodyRead bs) rs (i - 1) no_routine low bodies
+
+  module _ (h : Head) (is : h ≡ get_or hs (i - 1) (head 0 0)) where
+    head_is : h ≡ routine_head it
+    unfolding it
+    head_is = is ∙ ap (λ l. get_or l (i - 1) (head 0 0)) heads_are ∙ get_or-map routine_head rs (i - 1) no_routine (head 0 0) low
+
+    -- one more routine is costed
+    pub one_costed : (table : List ℕ) (cost : ℕ) → h.code < 256 → ((e : Ended) → run_at 9 bs h.at (after Top bs h.at) ≡ Ok e → cost ≡ min (run_cost of e.run) 1000001) → Capped table (cost_by of (drop i rs)) → Capped (set table h.code cost) (cost_by of (drop (i - 1) rs))
+    unfolding it
+    one_costed table cost small told g =
+        let code_is : h.code ≡ it.code = ap (λ (x : Head). x.code) head_is in
+        let at_is : h.at ≡ it.at = ap (λ (x : Head). x.at) head_is in
+        let b = it_read in
+        let e : Ended = b.ended in
+        let cost_is : cost ≡ min (run_cost of it.body) 1000001 = told e (ap (λ p. run_at 9 bs p (after Top bs p)) at_is ∙ b.run_is) ∙ ap (λ r. min (run_cost of r) 1000001) b.body_is in
+        let on : (i - 1) + 1 ≡ i = omega arith in
+        let room : h.code < length table = omega (arith, g.wide) in
+        let step : (c : ℕ) → cost_by of (drop (i - 1) rs) c ≡ cost_by of (it ∷ drop i rs) c = λ c. at_drop_more (λ l. cost_by of l c) rs (i - 1) no_routine low ∙ ap (λ n. cost_by of (it ∷ drop n rs) c) on in
+        record {
+          wide = length-set table h.code cost ∙ g.wide;
+          says = λ c small-c. ⊎_elim
+              (λ same.
+              ap (λ m. get_or (set table h.code cost) m 0) (sym same) ∙ get_or-set_same table h.code cost 0 room ∙ cost_is
+              ∙ sym (ap (λ n. min n 1000001) (step c ∙ cond-true _ _ _ (eq-eqb it.code c (sym code_is ∙ same)))))
+              (λ other.
+              let ne : c ≢ h.code = λ q. other (sym q) in
+              get_or-set_other table h.code c cost 0 ne ∙ g.says c small-c ∙ sym (ap (λ n. min n 1000001) (step c ∙ cond-false _ _ _ (ne_eqb it.code c (λ q. other (code_is ∙ q))))))
+              (cases_eq h.code c);
+        }
 
 -- a routine's code is a byte
 pub small_code : (bs : List ℕ) (r : Routine) → BodyRead bs r → r.code < 256

@@ -12,7 +12,7 @@ use Rattle.reading.specs.Bodies.{BodyRead, TaskRead}
 use Rattle.reading.specs.Listings.{listing, routine_head}
 use Rattle.reading.specs.Trees.{Routine, Task, Listing}
 use Rattle.reading.proofs.Stepped.{nothing}
-use Rattle.listing.specs.declared.cost.Costs.{Costs}
+use Rattle.listing.specs.Values.{Costs}
 use Rattle.listing.specs.Cycles.{Table}
 use Rattle.listing.specs.Costed.{cost_told, costs_of}
 use Rattle.listing.specs.Costing.{call_lists, block_lists, reach_table, cycle_from, dear_from, cost_in, unless, judged_after, costing}

@@ -7,7 +7,7 @@ use Rattle.std.proofs.lemmas.Bool.{cases_Bool, cond-true, cond-false, cases_eq, 
 use Rattle.faults.specs.declared.fault.CostFault.{CostFault}
 use Rattle.faults.specs.declared.fault.CostFault.TheVariants.{Read, Unknown, Cycle, TooDear}
 use Rattle.reading.specs.declared.heads.Head.{Head}
-use Rattle.listing.specs.declared.cost.Costs.{Costs}
+use Rattle.listing.specs.Values.{Costs}
 use Rattle.reading.specs.Heads.{head, used}
 use Rattle.reading.specs.Trees.{Item, work, call, either, repeat, Run, done, next, Arms, one, more, Routine, Listing, item_cost, run_cost, cost_arms, calls_item, calls_run, calls_arms}
 use Rattle.reading.specs.Listings.{listing, routine_head}

@@ -6,7 +6,7 @@ use denote.Ref.{Bor}
 use Rattle.std.proofs.lemmas.List.{at_drop_more, at_drop_all, drop_more, get_or_past}
 use Rattle.std.proofs.lemmas.Bool.{cond-true, cond-false, cases_Bool, cases_lt, cases_eq}
 use Rattle.reading.specs.declared.heads.Head.{Head}
-use Rattle.listing.specs.declared.calls.Calls.{Calls}
+use Rattle.listing.specs.Values.{Calls}
 use Rattle.reading.specs.Heads.{used}
 use Rattle.listing.specs.Calls.{first_unknown, or_else, CallsTold}
 use Rattle.listing.specs.Cycles.{entry, Tabled}

@@ -5,7 +5,7 @@ use Rattle.commands.specs.declared.table.Command.{Command}
 use Rattle.commands.specs.declared.table.Command.TheVariants.{Routine, Work, Call, Either, Or, EndEither, Repeat, EndRepeat, EndRoutine, Task, Block, Point, EndTask, Sheet}
 use Rattle.commands.specs.declared.table.Context.TheVariants.{Body, Top}
 use Rattle.reading.specs.declared.heads.Head.{Head}
-use Rattle.listing.specs.declared.calls.Calls.{Calls}
+use Rattle.listing.specs.Values.{Calls}
 use Rattle.commands.specs.Commands.{answer, after}
 use Rattle.reading.specs.Heads.{head, used}
 

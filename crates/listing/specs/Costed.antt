@@ -3,7 +3,7 @@ use Rattle.std.specs.Prelude.{ℕ, List, map, Ok, Err, Result}
 use Rattle.std.specs.List.{range_with_len}
 use Rattle.faults.specs.declared.fault.CostFault.{CostFault}
 use Rattle.reading.specs.declared.heads.Head.{Head}
-use Rattle.listing.specs.declared.cost.Costs.{Costs}
+use Rattle.listing.specs.Values.{Costs}
 use Rattle.reading.specs.Trees.{Listing}
 use Rattle.reading.specs.Listings.{routine_head, task_head}
 use Rattle.listing.specs.Costing.{cost_in}

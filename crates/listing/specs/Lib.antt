@@ -1,3 +1,4 @@
+pub mod Values
 pub mod Calls
 pub mod Cycles
 pub mod Marks

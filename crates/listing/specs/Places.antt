@@ -9,7 +9,7 @@ use Rattle.commands.specs.declared.table.Command.{Command}
 use Rattle.commands.specs.declared.table.Command.TheVariants.{Routine, Call, Block}
 use Rattle.commands.specs.declared.table.Context.{Context}
 use Rattle.commands.specs.Commands.{answer}
-use Rattle.listing.specs.declared.cost.Costs.{Costs}
+use Rattle.listing.specs.Values.{Costs}
 
 -- a command stands at an offset
 abbrev pub Stands : List ℕ → Command → ℕ → Type 0

@@ -2,7 +2,7 @@
 use Rattle.std.specs.Prelude.{◌≡◌, ℕ, ◌<◌, true, List, map, length, Ok, Err, Result, slice_index_or}
 use Rattle.faults.specs.declared.fault.CostFault.{CostFault}
 use Rattle.faults.specs.declared.fault.CostFault.TheVariants.{Read, Unknown, Cycle, TooDear}
-use Rattle.listing.specs.declared.cost.Costs.{Costs}
+use Rattle.listing.specs.Values.{Costs}
 use Rattle.reading.specs.Heads.{head}
 use Rattle.reading.specs.Trees.{Routine, Listing}
 use Rattle.reading.specs.Listings.{listing, routine_head}

@@ -6,12 +6,26 @@ use crate::codes::Codes;
 use commands::reader::Reader;
 use commands::table::{Command, Context};
 use reading::heads::{Head, Heads};
+use std::marker::Model;
 
 // The codes that a routine calls, and its first call of a code that no routine has.
 #[derive(Clone, Copy, Debug, PartialEq, Eq)]
 pub struct Calls {
     pub marks: Codes,
     pub unknown: Option<Head>,
+}
+
+impl Model for Calls {
+    ghost use Rattle.std.specs.Prelude.{◌≡◌, length};
+    ghost use Rattle.listing.specs.Values.{Calls};
+
+    ghost Value = { Calls };
+
+    ghost view = { λ c. record { marks = c.marks; unknown = c.unknown } };
+
+    ghost invariant = { λ c. length c.marks ≡ 256 };
+
+    ghost inverse = { λ c. record { marks = c.marks; unknown = c.unknown } };
 }
 
 impl Calls {

@@ -61,6 +61,11 @@ impl Codes {
     pub(crate) fn through(&self, code: u8, others: &Codes) -> Codes
         ensures { RowSays result (λ c. slice_index_or self.now c false || (slice_index_or self.now code false && slice_index_or others.now c false)) }
     {
-        Codes::those(|c| self.has(c) || (self.has(code) && others.has(c)))
+        // Few routines call a given code, so the rows of the others are not gone through.
+        if self.marks[usize::from(code)] {
+            Codes::those(|c| self.has(c) || others.has(c))
+        } else {
+            *self
+        }
     }
 }

@@ -26,7 +26,7 @@ use reading::heads::{Head, Heads};
 use reading::outline::Outline;
 use reading::read::read;
 use reading::walk::cost_run;
-use std::array;
+use std::marker::Model;
 
 // The first routine that reaches itself.
 fn first_cycle(rows: &[Codes; 32], routines: &Heads) -> Option<Head>
@@ -90,23 +90,17 @@ impl Routines<'_> {
         cost_run(&mut reader, costs, at, 9).map_or(0, |ran| ran.cost)
     }
 
-    // What the routine of a code costs, and 0 where there is none.
-    fn cost_of(&self, costs: &[u32; 256], code: u8) -> u32
-        ensures { (rs : List Routine) → self.now.heads.now ≡ map routine_head rs → AllByRecursion (BodyRead self.now.bytes.now) rs → result ≡ min (cost_by (cost_of_code costs.now) rs code) 1000001 }
-    {
-        let heads = self.heads.as_slice();
-        let Some(head) = heads.iter().find(|head| head.code == code) else {
-            return 0;
-        };
-        self.cost_at(costs, head.at)
-    }
-
     // One pass: what each routine costs, by the costs of the pass before.
     fn pass(&self, costs: &[u32; 256]) -> [u32; 256]
         ensures { (rs : List Routine) → self.now.heads.now ≡ map routine_head rs → AllByRecursion (BodyRead self.now.bytes.now) rs → Capped result (cost_by (cost_of_code costs.now) rs) }
     {
-        // A place of the array is below 256; std has no `From<usize>` for `u8`.
-        array::from_fn(|code| self.cost_of(costs, code as u8))
+        let mut next = [0u32; 256];
+        // Over the routines and not over all codes, of which few have one; from the last, as the definition takes the first of a code.
+        for i in (0..self.heads.len()).rev() {
+            let head = self.heads.get(i);
+            next[usize::from(head.code)] = self.cost_at(costs, head.at);
+        }
+        next
     }
 
     // What each routine costs after 32 passes.
@@ -127,6 +121,19 @@ impl Routines<'_> {
 pub struct Costs {
     pub outline: Outline,
     pub by_code: [u32; 256],
+}
+
+impl Model for Costs {
+    ghost use Rattle.std.specs.Prelude.{◌≡◌, length};
+    ghost use Rattle.listing.specs.Values.{Costs};
+
+    ghost Value = { Costs };
+
+    ghost view = { λ c. record { outline = c.outline; by_code = c.by_code } };
+
+    ghost invariant = { λ c. length c.by_code ≡ 256 };
+
+    ghost inverse = { λ c. record { outline = c.outline; by_code = c.by_code } };
 }
 
 // Reads a listing and costs its routines: a call of an unknown routine comes first, then a cycle, then a routine too dear.

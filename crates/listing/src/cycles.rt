@@ -12,8 +12,12 @@ fn pass(rows: &[Codes; 32], k: usize, code: u8) -> [Codes; 32]
     ensures told { Tabled result (through (entry rows.now) k code) }
     ensures small { code < 256 }
 {
-    let others = rows[k];
-    rows.map(|row| row.through(code, &others))
+    let mut next = *rows;
+    // By their places: a `map` over the array would move each row several times.
+    for i in 0..32usize {
+        next[i] = rows[i].through(code, &rows[k]);
+    }
+    next
 }
 
 // The codes that each routine reaches, from those that it calls.

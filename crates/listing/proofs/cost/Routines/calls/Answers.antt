@@ -2,7 +2,7 @@ use Rattle.std.proofs.Common.{◌<◌, List, [], length, get_or, replicate, sym,
 use Rattle.std.proofs.lemmas.List.{length-map, get_or-map}
 use Rattle.reading.specs.declared.heads.Head.{Head}
 use Rattle.reading.specs.Heads.{head}
-use Rattle.listing.specs.Calls.{calls_at}
+use Rattle.listing.specs.Calls.{calls_at, CallsTold}
 use Rattle.listing.specs.Costing.{calls_in}
 use Rattle.listing.proofs.Tables.{Filling, none_filled, filled_all, unknown_found, fill_more}
 use Rattle.listing.proofs.cost.Routines.calls.Goals as goal
@@ -17,7 +17,7 @@ returns-in-Some c =
     let at : Head → List Head = λ (h : Head). calls_at c.args.self.now.bytes.now h.at in
     let here : c.loop-i.i < length hs = omega (arith, ap length s.is, c.loop-i-test.true) in
     let same = ap (λ l. at (get_or l c.loop-i.i (head 0 0))) s.is ∙ sym (get_or-map at hs c.loop-i.i (head 0 0) [] here) in
-    (c.in-Some.call, unknown_found _ _ _ _ c.loop-i.invariant (simp length-map here) (omega (arith, s.few, c.loop-i-test.true)) _ same _ c.of-calls.ensures _ c.in-Some.is, refl)
+    (c.in-Some.call, unknown_found _ _ _ _ c.loop-i.invariant (simp length-map here) (omega (arith, s.few, c.loop-i-test.true)) _ same _ (subst (CallsTold hs _) (sym c.calls.view_is) c.of-calls.ensures) _ c.in-Some.is, refl)
 
 pub loop-i-preserved : goal.loop-i-preserved
 loop-i-preserved c =
@@ -26,7 +26,7 @@ loop-i-preserved c =
     let at : Head → List Head = λ (h : Head). calls_at c.args.self.now.bytes.now h.at in
     let here : c.loop-i.i < length hs = omega (arith, ap length s.is, c.loop-i-test.true) in
     let same = ap (λ l. at (get_or l c.loop-i.i (head 0 0))) s.is ∙ sym (get_or-map at hs c.loop-i.i (head 0 0) [] here) in
-    fill_more _ _ _ _ c.loop-i.invariant (simp length-map here) (omega (arith, s.few, c.loop-i-test.true)) _ same _ c.of-calls.ensures c.in_default.is
+    fill_more _ _ _ _ c.loop-i.invariant (simp length-map here) (omega (arith, s.few, c.loop-i-test.true)) _ same _ (subst (CallsTold hs _) (sym c.calls.view_is) c.of-calls.ensures) c.in_default.is
 
 pub returns : goal.returns
 returns c =
