@@ -1,3 +1,4 @@
 pub mod Joins
 pub mod Weights
+pub mod Ordered
 pub mod Measuring
