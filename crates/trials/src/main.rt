@@ -1,7 +1,8 @@
 // Trials of the selection: worked figures as one fact over the definitions, and random small tasks against all of their choices.
 #![tactic(auto)]
 
-ghost use Rattle.trials.specs.Figures.{Figures};
+ghost use Rattle.heap.specs.Orders.{before_by};
+ghost use Rattle.trials.specs.Figures.{Figures, FiguresBy};
 
 mod brute;
 mod drawn;
@@ -14,9 +15,10 @@ use selection::candidate::Candidate;
 use std::alloc::Global;
 use tasks::refusals::Refusal;
 
-// Worked figures of one task: they hold of the definitions.
+// Worked figures of one task: they hold of the definitions, by the named orders and by those that the selection goes by.
 fn figures()
-    ensures { Figures }
+    ensures named { Figures }
+    ensures derived { FiguresBy (before_by ⟦<Ticks as Ord>⟧.cmp) (before_by ⟦<TicksCharge as Ord>⟧.cmp) }
 {}
 
 // Both measures over random tasks, each asked at some limits.
