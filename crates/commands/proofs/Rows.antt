@@ -1,6 +1,7 @@
 -- What is known of a row that is found. Assumes nothing.
-use Rattle.std.proofs.Common.{◌≡◌, ℕ, ◌≤◌, Bool, true, ◌&&◌, eqb, leb, List, [], ◌∷◌, Some, None, Option, sym, refl, ap, ◌∙◌, ⊎_elim, arith}
+use Rattle.std.proofs.Common.{◌≡◌, ℕ, ◌+◌, ◌<◌, ◌≤◌, Bool, true, ◌&&◌, eqb, leb, List, [], ◌∷◌, length, get_or, drop, Some, None, Option, sym, refl, ap, ◌∙◌, ⊎_elim, arith, eq-eqb, ne_eqb}
 use Rattle.std.specs.List.{list_all}
+use Rattle.std.proofs.lemmas.List.{at_drop_more, at_drop_all}
 use Rattle.std.proofs.lemmas.Bool.{cond-true, cond-false, cases_Bool, and_parts, leb-true}
 use Rattle.commands.specs.declared.table.Row.{Row}
 use Rattle.commands.specs.declared.table.Kind.{Kind}
@@ -9,7 +10,17 @@ use Rattle.commands.specs.declared.table.Numbers.{Numbers}
 use Rattle.commands.specs.declared.table.Context.{Context}
 use Rattle.commands.specs.Commands.{row_of, rows, row_in, allowed, allows, holds, within, top, top_second, Narrow}
 
--- the row that is found passes it
+-- the row at a place of the table has the byte, or the search goes on
+pub hit : (xs : List Row) (i b : ℕ) (d : Row) → i < length xs → (get_or xs i d).byte ≡ b → row_of (drop i xs) b ≡ Some (get_or xs i d)
+hit xs i b d h e = at_drop_more (λ l. row_of l b) xs i d h ∙ cond-true _ _ _ (eq-eqb _ b e)
+
+pub miss : (xs : List Row) (i b : ℕ) (d : Row) → i < length xs → ((get_or xs i d).byte ≡ b → ⊥) → row_of (drop (i + 1) xs) b ≡ row_of (drop i xs) b
+miss xs i b d h e = sym (at_drop_more (λ l. row_of l b) xs i d h ∙ cond-false _ _ _ (ne_eqb _ b e))
+
+pub past : (xs : List Row) (i b : ℕ) → length xs ≤ i → row_of (drop i xs) b ≡ None
+past xs i b h = at_drop_all (λ l. row_of l b) xs i h
+
+-- the row that is found passes a test that each row of a table passes
 pub found : (p : Row → Bool) (xs : List Row) (b : ℕ) (r : Row) → list_all p xs ≡ true → row_of xs b ≡ Some r → p r ≡ true
 found p [] b r all e = cc
 found p (x ∷ xs) b r all e =

@@ -268,7 +268,13 @@ impl Row {
     pub fn of(byte: u8) -> Option<Row>
         ensures { result ≡ row_of rows byte }
     {
-        ROWS.iter().find(|row| row.byte == byte).copied()
+        // By value: so each row's widths and ranges are known where its byte is, at each command of each pass.
+        for row in ROWS {
+            if row.byte == byte {
+                return Some(row);
+            }
+        }
+        None
     }
 
     // The row of a byte that is a command allowed in a context.

@@ -1,10 +1,13 @@
-use Rattle.std.proofs.Common.{eqb, ◌∙◌, rules}
-use borrow.Author.Tests.{tests}
-use Rattle.std.proofs.lemmas.Iterator.{YieldsList-from_slice}
-use Rattle.std.proofs.lemmas.Iterator.Search.{find_from_yields_List}
-use Rattle.commands.specs.declared.table.Row.{Row}
+use Rattle.std.proofs.Common.{sym, ◌∙◌}
 use Rattle.commands.specs.Commands.{rows}
+use Rattle.commands.proofs.Rows.{hit, miss, past}
 use Rattle.commands.proofs.table.Row.of.Goals as goal
 
 pub returns : goal.returns
-returns c = c.copied.ensures ∙ find_from_yields_List (λ (r : Row). eqb r.byte c.args.byte) _ _ _ c.find.ensures.ran (YieldsList-from_slice rows cc) (λ x b q k. search (rules, tests))
+returns c = sym (past rows _ _ c.loop-row-test.false) ∙ c.loop-row.invariant
+
+pub returns-then-row-byte : goal.returns-then-row-byte
+returns-then-row-byte c = sym (hit rows _ _ _ c.loop-row-test.true c.if-row-byte.true) ∙ c.loop-row.invariant
+
+pub loop-row-preserved : goal.loop-row-preserved
+loop-row-preserved c = miss rows _ _ _ c.loop-row-test.true c.if-row-byte.false ∙ c.loop-row.invariant
