@@ -18,6 +18,7 @@ fn read(rt: &HostRuntime) -> anyhow::Result<Draft> {
     let mut draft = Draft::new(rt.alloc());
     for (i, text) in rt.lines(rt.alloc()).enumerate() {
         let text = text?;
+        // The last 32-bit number is told for every line from there on.
         let number = u32::try_from(i).unwrap_or(u32::MAX).saturating_add(1);
         let added = read_line(text.as_str()).and_then(|line| draft.add(line));
         if let Err(problem) = added {
